@@ -1,0 +1,3 @@
+pub mod basics
+pub mod table
+pub mod late

@@ -1,0 +1,4 @@
+pub mod Pieces
+pub mod Longest
+pub mod Fits
+pub mod Unique

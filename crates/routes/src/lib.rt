@@ -8,6 +8,7 @@ ghost use Rattle.routes.specs.Memory.{Mem, AtStart, MayTouch, MayRelease, Arri
 ghost use Rattle.routes.specs.Routes.{Event, Told, Turned, Explained};
 ghost use Rattle.routes.specs.Asked.{Next};
 ghost use Rattle.routes.specs.Promise.{FindsLongest, OneRoute, OnlyWhatFits, OldestFirst};
+ghost use Rattle.routes.specs.Examples.{ExamplesHold};
 
 #[derive(Clone, Copy)]
 pub enum Ask { Find(u32), Change(u32) }
@@ -87,6 +88,13 @@ pub fn one_route() -> u8
 
 pub fn oldest_first() -> u8
     ensures { λ _. ⌜ OldestFirst ⌝ }
+{
+    0
+}
+
+// The worked examples come out as they should.
+pub fn examples_hold() -> u8
+    ensures { λ _. ⌜ ExamplesHold ⌝ }
 {
     0
 }

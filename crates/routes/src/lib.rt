@@ -10,6 +10,16 @@ ghost use Rattle.routes.specs.Asked.{Next};
 ghost use Rattle.routes.specs.Promise.{FindsLongest, OneRoute, OnlyWhatFits, OldestFirst};
 ghost use Rattle.routes.specs.Examples.{ExamplesHold};
 
+mod act;
+mod header;
+mod node;
+mod prefix;
+mod refusal;
+
+pub use prefix::Prefix;
+pub use refusal::Refusal;
+pub use refusal::make_prefix;
+
 #[derive(Clone, Copy)]
 pub enum Ask { Find(u32), Change(u32) }
 

@@ -32,8 +32,8 @@ Did p Obtain m x n = Obtains m (gotOf x) n
 Did p (Release b) m x n = (x ≡ 0) × Arrives (counted (released b m)) n
 Did p Pause m x n = (x ≡ 0) × (n ≡ m)
 
--- One turn: what was asked was done, and by its reply the next state is r and the own words are u.
-pub record Turned {A : Type 0} (p : ℕ) (asked : Act) (next : ℕ → A) (words : ℕ → List ℕ) (m : Mem) (r : A) (n : Mem) (u : List ℕ) : Type 0 where
+-- A move: what was asked was done, and by its reply the next state is r and the own words are u.
+pub record Moved {A : Type 0} (p : ℕ) (asked : Act) (next : ℕ → A) (words : ℕ → List ℕ) (m : Mem) (r : A) (n : Mem) (u : List ℕ) : Type 0 where
   pub reply : ℕ
   pub did : Did p asked m reply n
   pub state : r ≡ next reply

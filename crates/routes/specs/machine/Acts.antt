@@ -3,6 +3,7 @@
 use mathlib.Core.Path.{_≡_}
 use mathlib.Core.List.{List}
 use Prim.Native.Nat.{ℕ, zero, suc, _<_}
+use lib.ListN.{length}
 use Rattle.std.specs.declared.option.Option.{Option}
 use Rattle.std.specs.declared.option.Option.the-variants.{Some, None}
 use Rattle.routes.specs.declared.act.Act.{Act}
@@ -32,9 +33,15 @@ Did p Obtain m x n = Obtains m (gotOf x) n
 Did p (Release b) m x n = (x ≡ 0) × Arrives (counted (released b m)) n
 Did p Pause m x n = (x ≡ 0) × (n ≡ m)
 
--- A move: what was asked was done, and by its reply the next state is r and the own words are u.
-pub record Moved {A : Type 0} (p : ℕ) (asked : Act) (next : ℕ → A) (words : ℕ → List ℕ) (m : Mem) (r : A) (n : Mem) (u : List ℕ) : Type 0 where
+-- A turn may be taken: the registers are in their ranges, the own words are 4,096, and what is asked may be asked.
+pub record Ready (m : Mem) (p : ℕ) (asks : Act) (Ok : Type 0) (own : List ℕ) : Type 0 where
+  pub ok : Ok
+  pub room : length own ≡ 4096
+  pub may : MayDo m p asks
+
+-- A turn was taken: what was asked was done, and the reply gives the next state and the own words.
+pub record Moved {A : Type 0} (p : ℕ) (asks : Act) (next : ℕ → A) (words : ℕ → List ℕ) (m : Mem) (r : A) (n : Mem) (own : List ℕ) : Type 0 where
   pub reply : ℕ
-  pub did : Did p asked m reply n
+  pub did : Did p asks m reply n
   pub state : r ≡ next reply
-  pub own : u ≡ words reply
+  pub kept : own ≡ words reply

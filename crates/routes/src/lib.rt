@@ -12,6 +12,7 @@ ghost use Rattle.routes.specs.Examples.{ExamplesHold};
 
 mod act;
 mod header;
+mod lookup;
 mod node;
 mod prefix;
 mod refusal;

@@ -14,8 +14,10 @@ mod act;
 mod header;
 mod lookup;
 mod node;
+mod pool;
 mod prefix;
 mod refusal;
+mod update;
 
 pub use prefix::Prefix;
 pub use refusal::Refusal;

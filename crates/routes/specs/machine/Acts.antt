@@ -39,8 +39,14 @@ pub record Ready (m : Mem) (p : ℕ) (asks : Act) (Ok : Type 0) (own : List ℕ)
   pub room : length own ≡ 4096
   pub may : MayDo m p asks
 
--- A turn was taken: what was asked was done, and the reply gives the next state and the own words.
-pub record Moved {A : Type 0} (p : ℕ) (asks : Act) (next : ℕ → A) (words : ℕ → List ℕ) (m : Mem) (r : A) (n : Mem) (own : List ℕ) : Type 0 where
+-- A turn was taken: what was asked was done, and the reply gives what comes next.
+pub record Moved {A : Type 0} (p : ℕ) (asks : Act) (next : ℕ → A) (m : Mem) (r : A) (n : Mem) : Type 0 where
+  pub reply : ℕ
+  pub did : Did p asks m reply n
+  pub state : r ≡ next reply
+
+-- The same, and the reply gives the own words too.
+pub record MovedOwn {A : Type 0} (p : ℕ) (asks : Act) (next : ℕ → A) (words : ℕ → List ℕ) (m : Mem) (r : A) (n : Mem) (own : List ℕ) : Type 0 where
   pub reply : ℕ
   pub did : Did p asks m reply n
   pub state : r ≡ next reply

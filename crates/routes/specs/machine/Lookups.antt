@@ -18,7 +18,7 @@ use Rattle.routes.specs.declared.lookup.Lookup.the-variants.{Epoch, Announce, 
 use Rattle.routes.specs.declared.lookup.LookupNext.{LookupNext}
 use Rattle.routes.specs.declared.lookup.LookupNext.the-variants.{On, Told}
 use Rattle.routes.specs.Memory.{Mem}
-use Rattle.routes.specs.machine.Acts.{Did}
+use Rattle.routes.specs.machine.Acts.{Moved}
 
 -- the longest route so far, after a slot of level d
 abbrev pub better : ℕ → Option Fit → Answer → Answer
@@ -52,7 +52,5 @@ lookupAfter (Root a e) x = afterRoot a e (childOf x)
 lookupAfter (Node a e d b best) x = afterSlot a e d (childOf x) (better d (fitOf x) best)
 lookupAfter (Leave e best) x = Told best
 
-pub record LookupMoved (p : ℕ) (l : Lookup) (m : Mem) (r : LookupNext) (n : Mem) : Type 0 where
-  pub reply : ℕ
-  pub did : Did p (lookupAct p l) m reply n
-  pub next : r ≡ lookupAfter l reply
+abbrev pub LookupMoved : ℕ → Lookup → Mem → LookupNext → Mem → Type 0
+LookupMoved p l m r n = Moved p (lookupAct p l) (lookupAfter l) m r n

@@ -1,6 +1,16 @@
 pub mod Acts
+pub mod NewBlocks
 pub mod Lookups
+pub mod Jobs
+pub mod Checks
+pub mod Obtains
+pub mod Recycles
 pub mod Scans
+pub mod Builds
 pub mod Publishes
+pub mod Retires
 pub mod Reclaims
 pub mod Finishes
+pub mod Updates
+pub mod Begins
+pub mod Cpus

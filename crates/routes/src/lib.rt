@@ -9,6 +9,7 @@ ghost use Rattle.routes.specs.Routes.{Event, Told, Turned, Explained};
 ghost use Rattle.routes.specs.Asked.{Next};
 ghost use Rattle.routes.specs.Promise.{FindsLongest, OneRoute, OnlyWhatFits, OldestFirst};
 ghost use Rattle.routes.specs.Examples.{ExamplesHold};
+ghost use Rattle.routes.specs.machine.Cpus.{Ready, Stepped, Begun};
 
 mod act;
 mod header;
@@ -18,6 +19,15 @@ mod pool;
 mod prefix;
 mod refusal;
 mod update;
+mod work;
+
+use lookup::LookupNext;
+use lookup::step_lookup;
+use update::UpdateNext;
+use update::step_update;
+use work::Work;
+use work::begin_update;
+use work::note_pieces;
 
 pub use prefix::Prefix;
 pub use refusal::Refusal;
@@ -84,6 +94,74 @@ pub trait World: Memory {
     fn told(&mut self, p: u32, a: Answer) -> bool
         requires { ⌜ Explained (mem (now self) .cpus) (mem (now self) .blocks) (Told p a ∷ seen (now self)) ⌝ }
         ensures { λ r. ⌜ mem (now (self .exit)) ≡ mem (now (self .entry)) ⌝ ∗ ⌜ (T r → seen (now (self .exit)) ≡ Told p a ∷ seen (now (self .entry))) ⌝ };
+}
+
+// What a processor has in its registers, beside 4,096 words of its own.
+#[derive(Clone, Copy)]
+pub struct Cpu { pub work: Work }
+
+impl Cpu {
+    // As it starts.
+    pub fn new() -> Cpu
+        ensures { λ r. ⌜ r .work ≡ Work.Idle ⌝ }
+    {
+        Cpu { work: Work::Idle }
+    }
+
+    // Something begins. Nothing is asked of the memory.
+    pub fn begin(&mut self, own: &mut [u64], k: Ask, pieces: &[Piece])
+        requires lent { ⌜ length (now own) ≡ 4096 ⌝ ∗ ⌜ length (now pieces) ≡ 8 ⌝ }
+        ensures begun { λ _. ⌜ Begun k (now (pieces .entry)) (now (own .entry)) (now (self .exit)) (now (own .exit)) ⌝ }
+    {
+        match k {
+            Ask::Find(address) => {
+                self.work = Work::Lookup(lookup::Lookup::Epoch { address });
+            }
+            Ask::Change(size) => {
+                note_pieces(own, pieces);
+                self.work = begin_update(size);
+            }
+        }
+    }
+
+    // One turn, in which at most one thing is asked of the memory.
+    pub fn step<M: Memory>(&mut self, w: &mut M, p: u32, own: &mut [u64]) -> Option<Answer>
+        requires once { ⌜ 1 ≤ mem (now w) .left ⌝ }
+        requires ready { ⌜ Ready (mem (now w)) p (now self) (now own) ⌝ }
+        ensures stepped { λ r. ⌜ Stepped p (mem (now (w .entry))) (now (self .entry)) (now (own .entry)) r (mem (now (w .exit))) (now (self .exit)) (now (own .exit)) ⌝ }
+        ensures unseen { λ _. ⌜ seen (now (w .exit)) ≡ seen (now (w .entry)) ⌝ }
+    {
+        match self.work {
+            Work::Idle => None,
+            Work::Lookup(l) => match step_lookup(l, w, p) {
+                LookupNext::On(next) => {
+                    self.work = Work::Lookup(next);
+                    None
+                }
+                LookupNext::Told(answer) => {
+                    self.work = Work::Idle;
+                    Some(answer)
+                }
+            },
+            Work::Update(job, phase) => match step_update(job, phase, w, p, own) {
+                UpdateNext::On(next, then) => {
+                    self.work = Work::Update(next, then);
+                    None
+                }
+                UpdateNext::Told(answer) => {
+                    self.work = Work::Idle;
+                    Some(answer)
+                }
+            },
+        }
+    }
+}
+
+// A processor's registers are few; what is more is its words.
+pub fn cpu_is_small() -> bool
+    ensures { λ r. ⌜ T r ⌝ }
+{
+    std::mem::size_of::<Cpu>() <= 256
 }
 
 // What is promised beside, each a theorem that a contract names.

@@ -34,7 +34,7 @@ Did p (Release b) m x n = (x ≡ 0) × Arrives (counted (released b m)) n
 Did p Pause m x n = (x ≡ 0) × (n ≡ m)
 
 -- A turn may be taken: the registers are in their ranges, the own words are 4,096, and what is asked may be asked.
-pub record Ready (m : Mem) (p : ℕ) (asks : Act) (Ok : Type 0) (own : List ℕ) : Type 0 where
+pub record PhaseReady (m : Mem) (p : ℕ) (asks : Act) (Ok : Type 0) (own : List ℕ) : Type 0 where
   pub ok : Ok
   pub room : length own ≡ 4096
   pub may : MayDo m p asks

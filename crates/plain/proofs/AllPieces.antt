@@ -1,8 +1,10 @@
 -- The pieces of a change, one after the other.
-use mathlib.Core.Path.{_≡_, refl}
-use mathlib.Core.List.{List, [], _∷_}
+use mathlib.Core.Path.{_≡_}
+use mathlib.Core.Bool.{false}
+use mathlib.Core.List.{List}
 use Prim.Native.Nat.{ℕ, _+_, _<_, _≤_}
 use native.Mathlib.Omega.{arith}
+use lib.Dec.{eqb}
 use lib.ListN.{length, getD, drop}
 use Rattle.std.proofs.shelf.Lists.{drop-more, drop-all}
 use Rattle.std.proofs.shelf.Ways.{tells}
@@ -21,5 +23,5 @@ unfolding pieces
 pieces-end ps i t h = rw (drop-all i ps h)
 
 -- A change of one to eight pieces is these pieces.
-pub changed-pieces : (ps : List Piece) (rs : List Route) → 0 < length ps → length ps ≤ 8 → changed ps rs ≡ pieces ps (Table rs)
+pub changed-pieces : (ps : List Piece) (rs : List Route) → false ≡ eqb (length ps) 0 → length ps ≤ 8 → changed ps rs ≡ pieces ps (Table rs)
 changed-pieces ps rs some few = grind (arith, tells)

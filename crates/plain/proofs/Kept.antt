@@ -23,10 +23,10 @@ pub record Kept (p : Prefix) (start es : List Entry) (next i : ℕ) : Type 0 whe
 
 -- At first nothing has moved.
 pub kept-none : (p : Prefix) (es : List Entry) → Kept p es es 0 0
-unfolding routesOf without
+unfolding without
 kept-none p es = record { routes = refl; rest = λ j h. refl; behind = omega arith; long = refl }
 
--- one entry more, e, which is read at i
+-- one entry more, the one at i
 module _ (p : Prefix) (start es : List Entry) (next i : ℕ) (within : i < length es) (k : Kept p start es next i) where
   -- The routes kept, when it stays and when it goes.
   routes-kept : (e : Entry) → e ≡ getD es i blank → routesOf (set es next e) (cond (hasPrefix p e) next (next + 1)) ≡ without (p .len) (p .bits) (routesOf start (i + 1))

@@ -9,12 +9,12 @@ use Rattle.routes.specs.Refusals.{PrefixOrRefusal}
 use Rattle.routes.specs.Routes.{Route, clean, without, has, Table, Wrong, piece}
 use Rattle.plain.specs.Entries.{routeFor}
 
--- A piece that is no prefix is turned away.
+-- A piece whose length and bits are no prefix is turned away.
 pub piece-unclean : (p : Piece) (rs : List Route) → clean (p .len) (p .bits) ≡ false → piece p rs ≡ Wrong 2
 unfolding piece
 piece-unclean p rs c = rw c
 
--- the rest: pieces of a prefix
+-- the other pieces have a prefix
 module _ (p : Piece) (q : Prefix) (rs : List Route) (made : PrefixOrRefusal (p .len) (p .bits) (Ok q)) where
   -- A route is put in.
   pub piece-puts : (qs : List Route) → p .puts ≡ true → qs ≡ (routeFor q (p .tells) ∷ without (q .len) (q .bits) rs) → piece p rs ≡ Table qs

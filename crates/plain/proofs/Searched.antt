@@ -1,5 +1,5 @@
 -- Looking through a row of entries, the newest first.
-use mathlib.Core.Path.{_≡_, refl, sym, _∙_}
+use mathlib.Core.Path.{_≡_, refl, sym}
 use mathlib.Core.Bool.{true, false, _&&_}
 use mathlib.Core.List.{List, _∷_}
 use mathlib.Core.Logic.{inl, inr}
@@ -43,12 +43,12 @@ module _ (es : List Entry) (i : ℕ) (d : Entry) (some : 0 < i) (within : i ≤ 
 
 -- When all are looked at, the best so far is found.
 pub longest-none : (a : ℕ) (best : Option Entry) (es : List Entry) (i : ℕ) → i ≤ 0 → foundOf best ≡ longest a (routesOf es i) (foundOf best) (leastOf best)
-unfolding longest routesOf
+unfolding longest
 longest-none a best es zero h = refl
 longest-none a best es (suc i) h = absurd (omega arith)
 
 -- When all are looked at, none is left to be found.
 pub has-none : (p : Prefix) (es : List Entry) (i : ℕ) → i ≤ 0 → false ≡ has (p .len) (p .bits) (routesOf es i)
-unfolding has routesOf
+unfolding has
 has-none p es zero h = refl
 has-none p es (suc i) h = absurd (omega arith)

@@ -9,10 +9,11 @@ use Rattle.routes.specs.declared.prefix.Prefix.{Prefix}
 use Rattle.routes.specs.Routes.{Route}
 use Rattle.plain.specs.declared.entry.Entry.{Entry}
 
--- what stands where no route does
+-- what stands where there is no route
 abbrev pub blank : Entry
 blank = record { prefix = record { len = 0; bits = 0; clean = tt }; tells = 0 }
 
+-- the route of a prefix, and of an entry
 abbrev pub routeFor : Prefix → ℕ → Route
 routeFor p tells = record { len = p .len; bits = p .bits; tells = tells }
 
@@ -24,6 +25,6 @@ abbrev pub hasPrefix : Prefix → Entry → Bool
 hasPrefix p e = eqb (p .len) (e .prefix .len) && eqb (p .bits) (e .prefix .bits)
 
 -- the routes of the first so many entries, the newest first
-unfoldable pub routesOf : List Entry → ℕ → List Route
+abbrev pub routesOf : List Entry → ℕ → List Route
 routesOf es zero = []
 routesOf es (suc n) = routeOf (getD es n blank) ∷ routesOf es n

@@ -1,14 +1,11 @@
-// The copy of a table that a change works on: it has room for the pieces of a change beyond what a table has.
+// The copy of a table that a change works on, with room for its pieces beyond what a table has.
 ghost use Prim.Native.Nat.{_≤_};
 use super::entry::Entry;
+use super::size::SLOTS;
 mod edit;
 mod pieces;
 
-// A change has at most so many pieces.
-pub const MOST_PIECES: usize = 8;
-pub const SLOTS: usize = 2056;
-
-#[derive(Clone, Copy)]
+#[derive(Drop)]
 pub struct Draft {
     pub entries: [Entry; SLOTS],
     pub many: usize,

@@ -11,14 +11,14 @@ pub struct Entry {
 }
 
 impl Entry {
-    // What stands where no route does.
+    // What stands where there is no route.
     pub fn blank() -> Entry
         ensures { λ r. ⌜ r ≡ blank ⌝ }
     {
         Entry { prefix: Prefix { len: 0, bits: 0 }, tells: 0 }
     }
 
-    // Are the address's first bits its own?
+    // Does the address begin with the prefix?
     pub fn fits(self, address: u32) -> bool
         ensures { λ r. ⌜ r ≡ fits (self .prefix .len) (self .prefix .bits) address ⌝ }
     {

@@ -1,13 +1,11 @@
-// The table: the first so many entries are its routes, the newest last.
+// The table.
 ghost use Prim.Native.Nat.{_≤_};
-use super::draft::SLOTS;
 use super::entry::Entry;
+use super::size::SLOTS;
 mod lookup;
 mod update;
 
-// How many routes there is room for.
-pub const ROOM: usize = 2048;
-
+// Its routes are the first so many entries, the newest last.
 #[derive(Clone, Copy)]
 pub struct PlainTable {
     entries: [Entry; SLOTS],

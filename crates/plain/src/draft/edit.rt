@@ -43,7 +43,17 @@ impl Draft {
         ensures more { λ _. ⌜ now (self .exit) .many ≤ now (self .entry) .many + 1 ⌝ }
     {
         self.take_out(prefix);
-        self.entries[self.many] = Entry { prefix, tells };
+        self.push(Entry { prefix, tells });
+    }
+
+    // One entry more, behind the others.
+    fn push(&mut self, entry: Entry)
+        requires { ⌜ now self .many < 2056 ⌝ }
+        ensures entries { λ _. ⌜ now (self .exit) .entries ≡ set (now (self .entry) .entries) (now (self .entry) .many) entry ⌝ }
+        ensures many { λ _. ⌜ now (self .exit) .many ≡ now (self .entry) .many + 1 ⌝ }
+        ensures slots { λ _. ⌜ length (now (self .entry) .entries) ≡ 2056 ⌝ }
+    {
+        self.entries[self.many] = entry;
         self.many += 1;
     }
 }

@@ -1,5 +1,4 @@
 // The pieces of a change, one after the other.
-ghost use mathlib.Core.Path.{_≡_};
 ghost use Prim.Native.Nat.{_+_, _<_, _≤_};
 ghost use lib.ListN.{length};
 ghost use Rattle.plain.specs.Changes.{Applied, AppliedAll};

@@ -1,13 +1,12 @@
 // Making a table, and asking it.
 ghost use mathlib.Core.Path.{_≡_};
 ghost use mathlib.Core.List.{[]};
-ghost use lib.ListN.{length};
 ghost use Rattle.routes.specs.Routes.{find};
 ghost use Rattle.plain.specs.Lookups.{betterOf, foundOf};
 ghost use Rattle.plain.specs.Tables.{tableRoutes};
 use super::PlainTable;
-use super::super::draft::SLOTS;
 use super::super::entry::Entry;
+use super::super::size::SLOTS;
 use routes::Answer;
 
 impl PlainTable {
@@ -20,7 +19,7 @@ impl PlainTable {
 
     // How many routes it has.
     pub fn len(&self) -> usize
-        ensures { λ r. ⌜ r ≡ length (tableRoutes (now (self .entry))) ⌝ }
+        ensures { λ r. ⌜ r ≡ now (self .entry) .many ⌝ }
     {
         self.many
     }

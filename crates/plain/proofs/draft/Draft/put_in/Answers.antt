@@ -1,11 +1,10 @@
-use mathlib.Core.Path.{_∙_, ap}
-use mathlib.Core.List.{_∷_}
 use native.Mathlib.Omega.{arith}
-use Rattle.plain.specs.Entries.{routeFor}
-use Rattle.plain.proofs.RouteLists.{routes-push}
+use Rattle.plain.proofs.RouteLists.{routes-pushed}
 use Rattle.plain.proofs.draft.Draft.put_in.Needs as need
 
 pub returns : need.returns
-returns c = record {
-    routes = routes-push _ _ _ (omega arith) ∙ ap (λ rs. routeFor (c .args .prefix) (c .args .tells) ∷ rs) (c .take-out .ensures .routes);
-    more = omega arith }
+returns c =
+    let done = c .push .ensures in
+    record {
+      routes = routes-pushed _ _ _ _ _ _ (omega arith) (done .entries) (done .many) (c .take-out .ensures .routes);
+      more = omega (arith, c .take-out .ensures .fewer) }

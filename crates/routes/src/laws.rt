@@ -1,3 +1,3 @@
-// What is promised beside the table itself, each a theorem that a contract names.
+// The laws that the table of routes rests on, each a theorem that a contract names.
 pub mod late;
 pub mod run;

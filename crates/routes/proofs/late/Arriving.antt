@@ -15,6 +15,11 @@ pub oldest-none : (q : ℕ) (m : Mem) → m .late q ≡ [] → oldest q (m .late
 unfolding oldest
 oldest-none q m e = rw e refl
 
+-- Of any other its oldest store does.
+pub oldest-some : (q : ℕ) (s : Store) (ss : List Store) (m : Mem) → m .late q ≡ s ∷ ss → oldest q (m .late q) m ≡ landed q s ss m
+unfolding oldest
+oldest-some q s ss m e = rw e refl
+
 -- Arriving may go on.
 pub arrives-on : {k m n : Mem} → Arrives k m → Arrives m n → Arrives k n
 arrives-on (rest m) b = b

@@ -1,5 +1,5 @@
 -- A fence is arriving, and a swap is a fence and then one word set at once.
-use mathlib.Core.Path.{_≡_, refl, sym, subst}
+use mathlib.Core.Path.{_≡_, refl, sym, subst, _∙_}
 use mathlib.Core.Bool.{cond}
 use mathlib.Core.List.{List, [], _∷_}
 use Prim.Native.Nat.{ℕ}
@@ -7,7 +7,7 @@ use lib.Dec.{eqb}
 use Rattle.routes.specs.Memory.{Mem, Store, sees, arrived, fenced, swapped, counted, Arrives, rest, one, oldest}
 use Rattle.routes.specs.late.Steps.{landed, setWord}
 use Rattle.routes.proofs.basics.Places.{setAt-hit, setAt-again, setAt-same}
-use Rattle.routes.proofs.late.Sees.{arrived-is}
+use Rattle.routes.proofs.late.Sees.{arrived-is, sees-none}
 use Rattle.routes.proofs.late.Arriving.{arrives-on, arrives-empty}
 
 -- A fence leaves nothing of its processor late.
@@ -44,6 +44,10 @@ fence-whole p m a = (arrives-on (fence-arrives p (counted m)) a, arrives-empty p
 pub swap-none : (p b w old x : ℕ) (m : Mem) → m .late p ≡ [] → swapped p b w old x m ≡ cond (eqb (m .val b w) old) (setWord b w x m) m
 swap-none p b w old x m e =
     subst (λ k. cond (eqb (k .val b w) old) (setWord b w x k) k ≡ cond (eqb (m .val b w) old) (setWord b w x m) m) (sym (fence-none p m e)) refl
+
+-- And what it is told was there is what is there.
+pub swap-reply : (p b w : ℕ) (m : Mem) → m .late p ≡ [] → fenced p m .val b w ≡ m .val b w
+swap-reply p b w m e = fence-val p b w m ∙ sees-none p b w m e
 
 -- A swap is a fence, and then a swap by one who has no late stores.
 pub swap-fenced : (p b w old x : ℕ) (m : Mem) → swapped p b w old x m ≡ cond (eqb (fenced p m .val b w) old) (setWord b w x (fenced p m)) (fenced p m)

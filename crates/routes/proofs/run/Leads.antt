@@ -44,6 +44,10 @@ leader-waits n p q s l ne e = or-right _ _ (some-leader n p q s l ne e)
 pub one-led : (p who : ℕ) (s : State) → OneLeader false who s → OneLeader true p (led p s)
 one-led p who s one q = let e = one q in grind (arith, tells)
 
--- Who has told its answer leads no more.
-pub one-told : (p : ℕ) (locked : Bool) (who : ℕ) (s : State) → OneLeader locked who s → OneLeader (locked && not (eqb p who)) who (toldAt p s)
-one-told p locked who s one q = let e = one q in grind (arith, tells)
+-- When the leader has told its answer, nobody leads.
+pub one-told-own : (p : ℕ) (locked : Bool) (s : State) → OneLeader locked p s → OneLeader false p (toldAt p s)
+one-told-own p locked s one q = let e = one q in grind (arith, tells)
+
+-- When another has, the leader stays.
+pub one-told-other : (p : ℕ) (locked : Bool) (who : ℕ) (s : State) → (p ≡ who → ⊥) → OneLeader locked who s → OneLeader locked who (toldAt p s)
+one-told-other p locked who s ne one q = let e = one q in grind (arith, tells)

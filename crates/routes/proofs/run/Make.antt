@@ -1,5 +1,5 @@
 -- Runs made longer: what may be seen next, and what may take effect unseen.
-use mathlib.Core.Path.{_≡_, refl, sym, ap, _∙_}
+use mathlib.Core.Path.{_≡_, refl, sym, _∙_}
 use mathlib.Core.Bool.{true, false}
 use mathlib.Core.List.{List, _∷_}
 use Prim.Native.Nat.{ℕ, _<_}
@@ -9,11 +9,11 @@ use Rattle.routes.specs.declared.Ask.the-variants.{Find, Change}
 use Rattle.routes.specs.declared.Answer.{Answer}
 use Rattle.routes.specs.declared.Answer.the-variants.{Done, Full, No}
 use Rattle.routes.specs.declared.Piece.{Piece}
-use Rattle.routes.specs.Routes.{Route, Event, Asked, Told, Turned, Now, Quiet, Under, Over, State, Run, asks, finds, changes, full, leads, leadsStill, turns, tells, Table, Wrong, changed, answerOf, tableOf, tooMuch, find, leader, led, older, mustWait, under}
+use Rattle.routes.specs.Routes.{Route, Event, Asked, Told, Turned, Now, Quiet, Under, Over, State, Run, asks, finds, changes, full, leads, leadsStill, turns, tells, Table, Wrong, changed, answerOf, tableOf, tooMuch, find, leader, led, under}
 use Rattle.routes.specs.run.Nows.{isChange, ageOf, limitOf}
 use Rattle.routes.specs.run.Steps.{askedAt, settledAt, turnedAt, toldAt}
 use Rattle.routes.proofs.run.Nows.{quiet-is, young-is}
-use Rattle.routes.proofs.run.Steps.{now-own}
+use Rattle.routes.proofs.run.Steps.{turned-over}
 use Rattle.routes.proofs.run.Always.{under-is}
 
 module _ {cpus blocks : ℕ} {es : List Event} {s : State} (r : Run cpus blocks es s) (p : ℕ) where
@@ -27,8 +27,7 @@ module _ {cpus blocks : ℕ} {es : List Event} {s : State} (r : Run cpus blocks 
 
   -- What has taken effect may have a turn and be told in it.
   pub explained-told : (k : Ask) (a : Answer) (g : ℕ) → s .now' p ≡ Over k a g → ageOf (s .now' p) < limitOf (s .now' p) → Run cpus blocks (Told p a ∷ Turned p ∷ es) (toldAt p (turnedAt cpus p s))
-  unfolding older
-  explained-told k a g e l = tells p (explained-turn l) (now-own p _ (s .table) s ∙ ap (older (mustWait cpus p s)) e)
+  explained-told k a g e l = tells p (explained-turn l) (turned-over cpus p s k a g e)
 
   -- A question takes effect: its answer is what the table has now.
   pub settle-found : (a : ℕ) (ps : List Piece) (g : ℕ) → s .now' p ≡ Under (Find a) ps g → Run cpus blocks es (settledAt p (Find a) (find a (s .table)) g (s .table) s)

@@ -13,9 +13,9 @@ pub fn fence_arrives() -> u8
     0
 }
 
-// One who has no late stores sees what is there, and a store shows at once to its own processor.
 pub fn own_stores() -> u8
-    ensures { λ _. ⌜ NoneLate ⌝ ∗ ⌜ OwnStores ⌝ }
+    ensures none { λ _. ⌜ NoneLate ⌝ }
+    ensures own { λ _. ⌜ OwnStores ⌝ }
 {
     0
 }

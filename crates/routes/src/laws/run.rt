@@ -14,7 +14,8 @@ pub fn one_leads() -> u8
 }
 
 pub fn turn_counts() -> u8
-    ensures { λ _. ⌜ TurnCounts ⌝ ∗ ⌜ WaitsForQuestions ⌝ }
+    ensures counts { λ _. ⌜ TurnCounts ⌝ }
+    ensures waits { λ _. ⌜ WaitsForQuestions ⌝ }
 {
     0
 }

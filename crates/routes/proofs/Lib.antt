@@ -1,3 +1,4 @@
 pub mod basics
 pub mod table
 pub mod late
+pub mod run

@@ -1,1 +1,9 @@
+pub mod Rows
+pub mod Only
+pub mod Sees
+pub mod Arriving
+pub mod Fence
+pub mod View
+pub mod Obtain
 pub mod Oldest
+pub mod Laws

@@ -33,6 +33,8 @@ pub use prefix::Prefix;
 pub use refusal::Refusal;
 pub use refusal::make_prefix;
 
+pub mod laws;
+
 #[derive(Clone, Copy)]
 pub enum Ask { Find(u32), Change(u32) }
 

@@ -1,0 +1,4 @@
+pub mod Rows
+pub mod View
+pub mod Steps
+pub mod Laws

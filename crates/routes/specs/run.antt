@@ -1,0 +1,3 @@
+pub mod Nows
+pub mod Steps
+pub mod Laws

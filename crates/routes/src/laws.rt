@@ -1,0 +1,3 @@
+// The laws that the table of routes rests on, each a theorem that a contract names.
+pub mod late;
+pub mod run;

@@ -1,3 +1,4 @@
 pub mod basics
+pub mod counts
 pub mod table
 pub mod late

@@ -9,6 +9,8 @@ ghost use Rattle.routes.specs.Routes.{Event, Told, Turned, Explained};
 ghost use Rattle.routes.specs.Asked.{Next};
 ghost use Rattle.routes.specs.Promise.{FindsLongest, OneRoute, OnlyWhatFits, OldestFirst};
 
+pub mod laws;
+
 #[derive(Clone, Copy)]
 pub enum Ask { Find(u32), Change(u32) }
 

@@ -1,0 +1,2 @@
+// The laws that the table of routes rests on, each a theorem that a contract names.
+pub mod counts;

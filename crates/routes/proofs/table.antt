@@ -2,3 +2,9 @@ pub mod Pieces
 pub mod Longest
 pub mod Fits
 pub mod Unique
+pub mod Lookups
+pub mod Lengths
+pub mod Sound
+pub mod Masks
+pub mod Seek
+pub mod Takes

@@ -1,2 +1,3 @@
 // The laws that the table of routes rests on, each a theorem that a contract names.
 pub mod counts;
+pub mod table;

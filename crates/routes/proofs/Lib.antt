@@ -1,4 +1,5 @@
 pub mod basics
 pub mod counts
 pub mod table
+pub mod keys
 pub mod late

@@ -1,3 +1,4 @@
 // The laws that the table of routes rests on, each a theorem that a contract names.
 pub mod counts;
+pub mod keys;
 pub mod table;

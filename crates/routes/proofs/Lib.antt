@@ -2,4 +2,5 @@ pub mod basics
 pub mod counts
 pub mod table
 pub mod keys
+pub mod tree
 pub mod late

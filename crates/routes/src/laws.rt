@@ -2,3 +2,4 @@
 pub mod counts;
 pub mod keys;
 pub mod table;
+pub mod tree;

@@ -1,5 +1,5 @@
 -- Sums over the numbers below n.
-use mathlib.Core.Path.{_≡_, refl}
+use mathlib.Core.Path.{_≡_, refl, sym}
 use mathlib.Core.Logic.{inl, inr}
 use Prim.Native.Nat.{ℕ, zero, suc, _+_, _*_, _≤_, _<_}
 use native.Mathlib.Nat.{add-suc}
@@ -42,6 +42,12 @@ pub sum-zero : (n : ℕ) (f : ℕ → ℕ) → ((i : ℕ) → i < n → f i ≡ 
 unfolding sum
 sum-zero zero f h = refl
 sum-zero (suc n) f h = let ih : sum n f ≡ 0 = sum-zero n f (λ i l. h i (omega arith)) in omega (arith, h n (omega arith))
+
+-- A sum of sums, the other way round.
+pub sum-swap : (n m : ℕ) (f : ℕ → ℕ → ℕ) → sum n (λ i. sum m (f i)) ≡ sum m (λ j. sum n (λ i. f i j))
+unfolding sum
+sum-swap zero m f = sym (sum-zero m (λ j. 0) (λ j l. refl))
+sum-swap (suc n) m f = omega (arith, sum-swap n m f, sum-plus m (f n) (λ j. sum n (λ i. f i j)))
 
 -- A sum of ones counts.
 pub sum-ones : (n : ℕ) → sum n (λ i. 1) ≡ n

@@ -1,13 +1,19 @@
 -- Slot words and route words.
 -- Assumes nothing.
-use mathlib.Core.Bool.{Bool, true, false, cond}
-use Prim.Native.Nat.{ℕ, zero, suc, _+_, _*_, _/_, _%_, _^_}
+use mathlib.Core.Path.{_≡_}
+use mathlib.Core.Bool.{cond}
+use Prim.Native.Nat.{ℕ, zero, suc, _+_, _*_, _/_, _%_, _^_, _<_}
 use lib.Dec.{eqb}
 use Rattle.std.specs.declared.option.Option.{Option}
 use Rattle.std.specs.declared.option.Option.the-variants.{Some, None}
 use Rattle.words.specs.declared.slot.Fit.{Fit}
 use Rattle.words.specs.declared.slot.Slot.{Slot}
 use Rattle.words.specs.Address.{candidate}
+
+-- the fields of a fit are within those of a slot word
+abbrev pub InRange : Option Fit → Type 0
+InRange None = Unit {0}
+InRange (Some f) = (f .extra < 4) × (f .tells < 2 ^ 32)
 
 -- a route word is 0 where there is no route
 unfoldable pub routeWord : ℕ → ℕ
@@ -40,3 +46,7 @@ fitOf x = cond (eqb (x / 2 ^ 54 % 2) 1) (Some (record { extra = x / 2 ^ 52 % 4; 
 
 abbrev pub slotOf : ℕ → Slot
 slotOf x = record { child = childOf x; fit = fitOf x }
+
+-- a packed slot, unpacked, is the slot
+abbrev pub UnpacksWhatItPacks : Type 0
+UnpacksWhatItPacks = (s : Slot) → s .child < 2 ^ 20 → InRange (s .fit) → slotOf (slotWord (s .child) (s .fit)) ≡ s

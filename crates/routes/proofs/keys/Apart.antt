@@ -12,11 +12,12 @@ use lib.Pow.{shr-shr, split}
 use Rattle.std.proofs.shelf.Ways.{tells}
 use Rattle.std.proofs.shelf.Tests.{cases-bool, and-parts, eqb-true, eq-eqb}
 use Rattle.words.specs.Address.{place}
+use Rattle.words.proofs.Addresses.{place-small}
 use Rattle.routes.specs.table.Tables.{Clean}
 use Rattle.routes.specs.keys.Keys.{wayOf, same}
 use Rattle.routes.specs.keys.Laws.{PrefixKey, KeysApart}
 use Rattle.routes.proofs.keys.Nibs.{nibs-ok, nibs-length, nibs-bits}
-use Rattle.routes.proofs.keys.Place.{place-small, place-last, place-apart}
+use Rattle.routes.proofs.keys.Place.{place-last, place-apart}
 
 -- Ways that are the same are equal.
 pub same-eq : (xs ys : List ℕ) → same xs ys ≡ true → xs ≡ ys

@@ -8,15 +8,11 @@ use lib.ListN.{length}
 use lib.Pow.{shr-shr, shl-shr}
 use Rattle.std.proofs.shelf.Tests.{eqb-true}
 use Rattle.words.specs.Address.{nib}
+use Rattle.words.proofs.Addresses.{nib-small}
 use Rattle.routes.specs.Routes.{fits}
 use Rattle.routes.specs.table.Lookups.{masked}
 use Rattle.routes.specs.keys.Keys.{nibs, Nibbles}
 use Rattle.routes.proofs.table.Masks.{masked-fits}
-
--- A nibble has four bits.
-pub nib-small : (d a : ℕ) → nib d a < 16
-unfolding nib
-nib-small d a = omega arith
 
 -- Above the last level a nibble is four of the address's bits.
 pub nib-is : (d a : ℕ) → d < 8 → nib d a ≡ a / 2 ^ (28 - 4 * d) % 16

@@ -24,21 +24,6 @@ pow-four x h = elim (eqb-tells x 0) [
 pub rest-below : (p x : ℕ) → p % 2 ^ x < 2 ^ x
 rest-below p x = mod-lt p (pow-pos x)
 
--- There are 15 places.
-pub place-small : (len bits : ℕ) → place len bits < 15
-unfolding place
-place-small len bits =
-    let h : len % 4 < 4 = omega arith in let a = pow-four (len % 4) h in let r = rest-below (bits / 2 ^ (32 - len)) (len % 4) in grind arith
-
--- What fits a slot has one of them.
-pub candidate-small : (x n : ℕ) → x < 4 → n < 16 → candidate x n < 15
-unfolding candidate
-candidate-small x n h l = elim (pow-four x h) [
-      inl e ↦ rw (e .0) (omega arith)
-    | inr a ↦ elim a [
-          inl e ↦ rw (e .0) (omega arith)
-        | inr b ↦ elim b [ inl e ↦ rw (e .0) (omega arith) | inr e ↦ rw (e .0) (omega arith) ] ] ]
-
 -- Of length 32 there is one place.
 pub place-last : (bits : ℕ) → place 32 bits ≡ 0
 unfolding place

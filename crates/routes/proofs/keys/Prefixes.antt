@@ -8,10 +8,11 @@ use lib.ListN.{length}
 use lib.Pow.{shr-shr, shl-shr, split, high, low}
 use Rattle.std.proofs.shelf.Ways.{tells}
 use Rattle.words.specs.Address.{nib, place}
+use Rattle.words.proofs.Addresses.{nib-small}
 use Rattle.routes.specs.table.Tables.{Clean}
 use Rattle.routes.specs.keys.Keys.{nibs, Nibbles, Key, bitsBehind, extraOf, lenOf, bitsOf}
 use Rattle.routes.specs.keys.Laws.{KeyPrefix}
-use Rattle.routes.proofs.keys.Nibs.{nib-small, bits-more}
+use Rattle.routes.proofs.keys.Nibs.{bits-more}
 use Rattle.routes.proofs.keys.Place.{pow-four}
 
 -- Bits that are made of nibbles have those nibbles, and in front of them what was there.

@@ -11,6 +11,7 @@ use Rattle.std.proofs.shelf.Ways.{tells as tests}
 use Rattle.std.proofs.shelf.Tests.{cases-bool, and-parts, eqb-true}
 use Rattle.words.specs.Address.{place}
 use Rattle.words.specs.Slots.{routeWord}
+use Rattle.words.proofs.Addresses.{place-small}
 use Rattle.routes.specs.declared.Piece.{Piece}
 use Rattle.routes.specs.Routes.{Route, Table, piece}
 use Rattle.routes.specs.table.Tables.{Clean}
@@ -27,7 +28,6 @@ use Rattle.routes.proofs.table.Sound.{clean-parts, sound-none, sound-piece}
 use Rattle.routes.proofs.table.Masks.{masked-clean}
 use Rattle.routes.proofs.table.Seek.{seek-same, find-lookups}
 use Rattle.routes.proofs.keys.Nibs.{nibs-ok, nibs-length}
-use Rattle.routes.proofs.keys.Place.{place-small}
 use Rattle.routes.proofs.keys.Apart.{same-eq, keys-apart, prefix-key}
 use Rattle.routes.proofs.tree.Trees.{look-none}
 use Rattle.routes.proofs.tree.Edits.{look-edit, routes-edit, proper-edit}

@@ -12,13 +12,14 @@ use Rattle.std.specs.declared.option.Option.{Option}
 use Rattle.words.specs.declared.slot.Fit.{Fit}
 use Rattle.words.specs.Address.{nib, place, candidate}
 use Rattle.words.specs.Slots.{fitOr, fitBelow, bestFit}
+use Rattle.words.proofs.Addresses.{nib-small}
 use Rattle.routes.specs.declared.Answer.{Answer}
 use Rattle.routes.specs.declared.Answer.the-variants.{Found, Nothing}
 use Rattle.routes.specs.table.Lookups.{masked, seek}
 use Rattle.routes.specs.keys.Keys.{nibs, wayOf}
 use Rattle.routes.specs.tree.Trees.{Tree, routesOf, look}
 use Rattle.routes.specs.tree.Walks.{down, better, walk}
-use Rattle.routes.proofs.keys.Nibs.{nib-small, nibs-masked}
+use Rattle.routes.proofs.keys.Nibs.{nibs-masked}
 use Rattle.routes.proofs.keys.Place.{place-last, place-masked}
 
 -- A look by an address's nibbles is at the node that they lead to.

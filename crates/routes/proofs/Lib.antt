@@ -3,4 +3,5 @@ pub mod counts
 pub mod table
 pub mod keys
 pub mod tree
+pub mod repr
 pub mod late

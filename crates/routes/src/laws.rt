@@ -1,5 +1,6 @@
 // The laws that the table of routes rests on, each a theorem that a contract names.
 pub mod counts;
 pub mod keys;
+pub mod repr;
 pub mod table;
 pub mod tree;

@@ -1,4 +1,8 @@
 pub mod basics
+pub mod counts
 pub mod table
+pub mod keys
+pub mod tree
+pub mod repr
 pub mod late
 pub mod run

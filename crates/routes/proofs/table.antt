@@ -3,3 +3,9 @@ pub mod Longest
 pub mod Fits
 pub mod Unique
 pub mod Examples
+pub mod Lookups
+pub mod Lengths
+pub mod Sound
+pub mod Masks
+pub mod Seek
+pub mod Takes

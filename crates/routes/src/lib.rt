@@ -13,6 +13,7 @@ ghost use Rattle.routes.specs.machine.Cpus.{Ready, Stepped, Begun};
 
 mod act;
 mod header;
+pub mod laws;
 mod lookup;
 mod node;
 mod pool;
@@ -32,8 +33,6 @@ use work::note_pieces;
 pub use prefix::Prefix;
 pub use refusal::Refusal;
 pub use refusal::make_prefix;
-
-pub mod laws;
 
 #[derive(Clone, Copy)]
 pub enum Ask { Find(u32), Change(u32) }

@@ -1,6 +1,6 @@
 -- A table has one route for a length and its bits, and every route is clean, whatever is done.
 use mathlib.Core.Path.{_≡_, refl}
-use mathlib.Core.Bool.{true, _&&_, _||_}
+use mathlib.Core.Bool.{_&&_, _||_}
 use mathlib.Core.List.{List, [], _∷_, List·Memᴰ, List·Memᴰ·head, List·Memᴰ·tail, List·Memᴰ·cases-cons, List·Memᴰ·not-nil}
 use mathlib.Core.Logic.{inl, inr}
 use Prim.Native.Nat.{ℕ}
@@ -12,12 +12,8 @@ use Rattle.std.proofs.shelf.Tests.{cases-bool}
 use Rattle.routes.specs.declared.Piece.{Piece}
 use Rattle.routes.specs.Routes.{Route, clean, without, After, Table, Wrong, piece, pieces, changed, tableOf, Event, State, Run, begin, asks, finds, changes, full, leads, leadsStill, turns, tells}
 use Rattle.routes.specs.Promise.{OneRoute}
+use Rattle.routes.specs.table.Tables.{Fine}
 use Rattle.routes.proofs.table.Pieces.{putIn, piece-table, piece-clean, pieces-cons}
-
--- every route is clean, and no other has its length and bits
-pub record Fine (rs : List Route) : Type 0 where
-  pub alone : (q r : Route) → List·Memᴰ q rs → List·Memᴰ r rs → q .len ≡ r .len → q .bits ≡ r .bits → q ≡ r
-  pub tidy : (q : Route) → List·Memᴰ q rs → T (clean (q .len) (q .bits))
 
 -- The empty table is.
 pub fine-none : Fine []

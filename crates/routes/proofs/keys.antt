@@ -1,0 +1,4 @@
+pub mod Nibs
+pub mod Place
+pub mod Apart
+pub mod Prefixes

@@ -1,0 +1,3 @@
+pub mod Repr
+pub mod Images
+pub mod Laws

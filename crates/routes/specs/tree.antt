@@ -1,0 +1,4 @@
+pub mod Trees
+pub mod Edits
+pub mod Walks
+pub mod Laws

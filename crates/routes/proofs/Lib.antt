@@ -6,3 +6,4 @@ pub mod tree
 pub mod repr
 pub mod late
 pub mod run
+pub mod machine

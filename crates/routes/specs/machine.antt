@@ -14,3 +14,4 @@ pub mod Finishes
 pub mod Updates
 pub mod Begins
 pub mod Cpus
+pub mod Laws

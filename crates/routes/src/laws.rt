@@ -2,6 +2,7 @@
 pub mod counts;
 pub mod keys;
 pub mod late;
+pub mod machine;
 pub mod repr;
 pub mod run;
 pub mod table;

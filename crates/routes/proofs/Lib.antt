@@ -4,4 +4,5 @@ pub mod table
 pub mod keys
 pub mod tree
 pub mod repr
+pub mod build
 pub mod late

@@ -1,0 +1,6 @@
+pub mod Reads
+pub mod Blocks
+pub mod Writes
+pub mod Turns
+pub mod Stages
+pub mod Checks

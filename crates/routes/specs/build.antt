@@ -1,0 +1,4 @@
+pub mod Reads
+pub mod Writes
+pub mod Stages
+pub mod Laws

@@ -1,0 +1,2 @@
+-- What is proved of building a change.
+-- Assumes nothing.

@@ -1,0 +1,5 @@
+pub mod Layout
+pub mod Pieces
+pub mod Images
+pub mod Edits
+pub mod Functions

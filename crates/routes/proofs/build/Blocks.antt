@@ -5,11 +5,12 @@ use native.Mathlib.Nat.{add-zero}
 use native.Mathlib.Omega.{arith}
 use lib.Dec.{eqb}
 use Rattle.std.proofs.shelf.Ways.{tells}
+use Rattle.own.specs.Layout.{freshAt, retiredAt}
 use Rattle.routes.specs.counts.Counts.{bit, cnt, seg}
 use Rattle.routes.specs.keys.Keys.{nibs}
 use Rattle.routes.specs.tree.Trees.{Tree, none, blockOf, top, count, path}
 use Rattle.routes.specs.tree.Walks.{down}
-use Rattle.routes.specs.repr.Images.{Own, freshAt, retiredAt}
+use Rattle.routes.specs.repr.Images.{Own}
 use Rattle.routes.specs.build.Writes.{freshBlocks, unusedBlocks, retiredBlocks, Held}
 use Rattle.routes.proofs.counts.Segments.{seg-same}
 use Rattle.routes.proofs.tree.Trees.{top-is, path-none}

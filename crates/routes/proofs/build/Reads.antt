@@ -8,12 +8,15 @@ use Rattle.std.proofs.shelf.Ways.{tells}
 use Rattle.std.proofs.shelf.Tests.{cases-lt, cases-eq}
 use Rattle.words.specs.Address.{nib}
 use Rattle.words.proofs.Addresses.{nib-small}
+use Rattle.own.specs.Layout.{imageAt, retiredAt}
+use Rattle.own.specs.Functions.{blankedIn}
+use Rattle.own.specs.Images.{taken}
 use Rattle.routes.specs.tree.Trees.{Tree, none, kidsOf, blockOf, count}
 use Rattle.routes.specs.tree.Walks.{down}
 use Rattle.routes.specs.repr.Repr.{Repr}
-use Rattle.routes.specs.repr.Images.{Own, imageAt, retiredAt, taken, imageOf, Images}
+use Rattle.routes.specs.repr.Images.{Own, imageOf, Images}
 use Rattle.routes.specs.keys.Keys.{nibs}
-use Rattle.routes.specs.build.Reads.{Reading, Have, blanked}
+use Rattle.routes.specs.build.Reads.{Reading, Have}
 use Rattle.routes.proofs.tree.Trees.{count-kid, count-block}
 use Rattle.routes.proofs.repr.Nodes.{repr-down, repr-none, node-read}
 use Rattle.routes.proofs.repr.Images.{image-kid, image-none}
@@ -86,7 +89,7 @@ have-none own t retired a deep n =
     record { words = λ e j l. absurd (omega arith); blocks = λ e l. absurd (omega arith); real = λ e l. absurd (omega arith); few = omega arith; end = λ _. n }
 
 -- With noughts for the nodes that are not there, all levels have their images.
-have-all : (own : Own) (t : Tree) (retired a have deep : ℕ) → Have own t retired a have deep → (e j : ℕ) → e ≤ deep → j < 31 → blanked have deep own (imageAt e j) ≡ imageOf (down a e t) j
+have-all : (own : Own) (t : Tree) (retired a have deep : ℕ) → Have own t retired a have deep → (e j : ℕ) → e ≤ deep → j < 31 → blankedIn have deep own (imageAt e j) ≡ imageOf (down a e t) j
 have-all own t retired a have deep g e j h l = elim (cases-lt e have) [
       inl m ↦ let o = g .words e j m l in grind (arith, tells)
     | inr m ↦ rw (none-below a have e t m (g .end (omega arith)), image-none j) (grind (arith, tells)) ]
@@ -98,6 +101,6 @@ images-down own t a deep zero d q h = λ i l. h d i (omega arith) l
 images-down own t a deep (suc k) d q h = ((λ i l. h d i (omega arith) l), images-down own t a deep k (suc d) (omega arith) h)
 
 -- So the images of the way are there.
-pub have-images : (own : Own) (t : Tree) (retired a have deep : ℕ) → Have own t retired a have deep → Images (blanked have deep own) 0 (nibs 0 deep a) t
+pub have-images : (own : Own) (t : Tree) (retired a have deep : ℕ) → Have own t retired a have deep → Images (blankedIn have deep own) 0 (nibs 0 deep a) t
 unfolding down
-have-images own t retired a have deep g = images-down (blanked have deep own) t a deep deep 0 (omega arith) (have-all own t retired a have deep g)
+have-images own t retired a have deep g = images-down (blankedIn have deep own) t a deep deep 0 (omega arith) (have-all own t retired a have deep g)

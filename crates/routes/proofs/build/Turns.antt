@@ -7,13 +7,15 @@ use native.Mathlib.Omega.{arith}
 use lib.ListN.{length}
 use Rattle.std.proofs.shelf.Ways.{tells}
 use Rattle.std.proofs.shelf.Tests.{eq-eqb}
+use Rattle.own.specs.Layout.{freshAt, retiredAt}
+use Rattle.own.specs.Functions.{blankedIn}
 use Rattle.routes.specs.counts.Counts.{cnt, seg}
 use Rattle.routes.specs.keys.Keys.{nibs}
 use Rattle.routes.specs.tree.Trees.{Tree, blockOf, path, depth}
 use Rattle.routes.specs.tree.Edits.{RouteEdit, edit}
 use Rattle.routes.specs.tree.Walks.{down}
-use Rattle.routes.specs.repr.Images.{Own, freshAt, retiredAt, Images, levelsLeft}
-use Rattle.routes.specs.build.Reads.{Have, blanked, edited}
+use Rattle.routes.specs.repr.Images.{Own, Images, levelsLeft}
+use Rattle.routes.specs.build.Reads.{Have, edited}
 use Rattle.routes.specs.build.Writes.{freshBlocks, unusedBlocks, retiredBlocks, Held, Work, NewBlock, Write}
 use Rattle.routes.proofs.counts.Segments.{seg-same, cnt-split, seg-in, seg-apart}
 use Rattle.routes.proofs.keys.Nibs.{nibs-ok, nibs-length}
@@ -53,16 +55,16 @@ module _ (val : ℕ → ℕ → ℕ) (own : Own) (T W : Tree) (c : RouteEdit) (a
 
   -- The images are those of the edited tree.
   images-after : Images own' 0 ns u
-  images-after = images-edit c 0 ns (blanked have deep own) W hx (nibs-ok 0 deep a) all-real (held-zero own T W need used retired root (k .held)) (have-images own W retired a have deep g)
+  images-after = images-edit c 0 ns (blankedIn have deep own) W hx (nibs-ok 0 deep a) all-real (held-zero own T W need used retired root (k .held)) (have-images own W retired a have deep g)
 
   -- The levels left are the new nodes.
-  pub levels-after : levelsLeft c 0 ns (blanked have deep own) ≡ depth ns u
+  pub levels-after : levelsLeft c 0 ns (blankedIn have deep own) ≡ depth ns u
   levels-after =
-      levels-left c 0 ns (blanked have deep own) W hx (nibs-ok 0 deep a) all-real (held-zero own T W need used retired root (k .held)) (have-images own W retired a have deep g) ∙ zero-add (depth ns u)
+      levels-left c 0 ns (blankedIn have deep own) W hx (nibs-ok 0 deep a) all-real (held-zero own T W need used retired root (k .held)) (have-images own W retired a have deep g) ∙ zero-add (depth ns u)
 
   -- Own words behind the images stay.
   pub own-behind : (i : ℕ) → freshAt 0 ≤ i → own' i ≡ own i
-  own-behind i l = edit-behind c 0 ns (blanked have deep own) i hx (nibs-ok 0 deep a) (omega (arith, nibs-length 0 deep a)) l ∙ grind (arith, tells)
+  own-behind i l = edit-behind c 0 ns (blankedIn have deep own) i hx (nibs-ok 0 deep a) (omega (arith, nibs-length 0 deep a)) l ∙ grind (arith, tells)
 
   fresh-same : freshBlocks own' need ≡ freshBlocks own need
   fresh-same = seg-same own' own (freshAt 0) (freshAt 0) need (λ j l. own-behind (freshAt 0 + j) (omega arith))

@@ -6,12 +6,14 @@ use Prim.Native.Nat.{ℕ, suc, _+_, _≤_, _<_}
 use native.Mathlib.Omega.{arith}
 use Rattle.std.proofs.shelf.Ways.{tells, eqb-tells}
 use Rattle.std.proofs.shelf.Tests.{cases-eq}
+use Rattle.own.specs.Layout.{imageAt, freshAt}
+use Rattle.own.specs.Images.{packed}
 use Rattle.routes.specs.Memory.{setVal}
 use Rattle.routes.specs.counts.Counts.{cnt}
 use Rattle.routes.specs.keys.Keys.{Nibbles}
 use Rattle.routes.specs.tree.Trees.{Tree, count, depth}
 use Rattle.routes.specs.tree.Edits.{RouteEdit, edit}
-use Rattle.routes.specs.repr.Images.{Own, imageAt, freshAt, packed}
+use Rattle.routes.specs.repr.Images.{Own}
 use Rattle.routes.specs.build.Writes.{freshBlocks, Work, Writing, Write}
 use Rattle.routes.proofs.counts.Segments.{seg-in}
 use Rattle.routes.proofs.repr.Nodes.{repr-stays}

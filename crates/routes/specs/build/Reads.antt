@@ -1,14 +1,14 @@
 -- Reading the nodes on a way into images: level by level, 31 words each, with their blocks behind the end of the retired ones.
 -- Assumes nothing.
 use mathlib.Core.Path.{_≡_}
-use mathlib.Core.Bool.{cond, _&&_}
 use mathlib.Core.List.{List}
 use Prim.Native.Nat.{ℕ, suc, _+_, _*_, _≤_, _<_}
-use lib.Dec.{leb, ltb}
+use Rattle.own.specs.Layout.{imageAt, retiredAt}
+use Rattle.own.specs.Functions.{blankedIn}
 use Rattle.routes.specs.tree.Trees.{Tree, none, blockOf}
 use Rattle.routes.specs.tree.Edits.{RouteEdit}
 use Rattle.routes.specs.tree.Walks.{down}
-use Rattle.routes.specs.repr.Images.{Own, imageAt, retiredAt, imageOf, editImages}
+use Rattle.routes.specs.repr.Images.{Own, imageOf, editImages}
 
 -- word i of level d is next, of block b; all before it is read
 pub record Reading (own : Own) (t : Tree) (retired a d i b : ℕ) : Type 0 where
@@ -25,10 +25,6 @@ pub record Have (own : Own) (t : Tree) (retired a have deep : ℕ) : Type 0 wher
   pub few : have ≤ suc deep
   pub end : have ≤ deep → down a have t ≡ none
 
--- the images of levels have to deep are noughts
-abbrev pub blanked : ℕ → ℕ → Own → Own
-blanked have deep own i = cond (leb (imageAt have 0) i && ltb i (imageAt (suc deep) 0)) 0 (own i)
-
 -- the own words after an edit on a way of which have nodes were read, of levels 0 to deep
 abbrev pub edited : RouteEdit → List ℕ → ℕ → ℕ → Own → Own
-edited c ns have deep own = editImages c 0 ns (blanked have deep own)
+edited c ns have deep own = editImages c 0 ns (blankedIn have deep own)

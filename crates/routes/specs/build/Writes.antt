@@ -4,11 +4,13 @@ use mathlib.Core.Path.{_≡_}
 use mathlib.Core.List.{List}
 use Prim.Native.Nat.{ℕ, _+_, _-_, _*_, _^_, _≤_, _<_}
 use lib.Dec.{eqb}
+use Rattle.own.specs.Layout.{imageAt, freshAt, retiredAt}
+use Rattle.own.specs.Images.{packed}
 use Rattle.routes.specs.counts.Counts.{bit, cnt, seg}
 use Rattle.routes.specs.tree.Trees.{Tree, blockOf, count, depth}
 use Rattle.routes.specs.tree.Edits.{RouteEdit, edit}
 use Rattle.routes.specs.repr.Repr.{Repr}
-use Rattle.routes.specs.repr.Images.{Own, imageAt, freshAt, retiredAt, packed, Images}
+use Rattle.routes.specs.repr.Images.{Own, Images}
 
 -- the blocks that were got for a change, those of them that are not used yet, and the blocks that it retires
 abbrev pub freshBlocks : Own → ℕ → List ℕ

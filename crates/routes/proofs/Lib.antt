@@ -4,6 +4,7 @@ pub mod table
 pub mod keys
 pub mod tree
 pub mod repr
+pub mod build
 pub mod late
 pub mod run
 pub mod machine

@@ -8,16 +8,19 @@ use native.Mathlib.Omega.{arith}
 use lib.Dec.{eqb}
 use lib.ListN.{length}
 use Rattle.std.proofs.shelf.Ways.{tells, eqb-tells}
+use Rattle.own.specs.Layout.{imageAt}
+use Rattle.own.specs.Images.{bare}
+use Rattle.own.proofs.Imaged.{image-put}
 use Rattle.routes.specs.Memory.{setAt}
 use Rattle.routes.specs.keys.Keys.{Nibbles}
 use Rattle.routes.specs.tree.Trees.{Tree, node, routesOf, kidsOf, blockOf, there, count, depth, weight}
 use Rattle.routes.specs.tree.Edits.{RouteEdit, cut, edit}
-use Rattle.routes.specs.repr.Images.{Own, imageAt, bare, imageOf, Image, Images, editImages, levelsLeft}
+use Rattle.routes.specs.repr.Images.{Own, imageOf, Image, Images, editImages, levelsLeft}
 use Rattle.routes.specs.repr.Laws.{ImagesEdited}
 use Rattle.routes.proofs.basics.Places.{setAt-hit}
 use Rattle.routes.proofs.tree.Trees.{count-kid}
 use Rattle.routes.proofs.tree.Edits.{kid-edit, block-edit, block-cut, depth-cut, zero-edit}
-use Rattle.routes.proofs.repr.Images.{image-set, image-bare, images-first, images-stay, images-cut}
+use Rattle.routes.proofs.repr.Images.{image-bare, images-first, images-stay, images-cut}
 
 -- An edit leaves the levels above it.
 pub edit-above : (c : RouteEdit) (d : ℕ) (ns : List ℕ) (own : Own) (e j : ℕ) → c .place < 15 → Nibbles ns → e < d → j < 32 → editImages c d ns own (imageAt e j) ≡ own (imageAt e j)
@@ -26,7 +29,7 @@ edit-above c d [] own e j hx ok l h = grind (arith, tells)
 edit-above c d (n ∷ ns) own e j hx ok l h =
     let ih = edit-above c (suc d) ns own e j hx (ok .1) (omega arith) h in
     let k = ok .0 in
-    image-set (editImages c (suc d) ns own) d n (cond (bare (editImages c (suc d) ns own) (suc d)) 0 (c .fresh (suc d))) e j (omega arith) h ∙ grind (arith, tells)
+    image-put (editImages c (suc d) ns own) d n (cond (bare (editImages c (suc d) ns own) (suc d)) 0 (c .fresh (suc d))) e j (omega arith) h ∙ grind (arith, tells)
 
 -- And all behind the images.
 pub edit-behind : (c : RouteEdit) (d : ℕ) (ns : List ℕ) (own : Own) (i : ℕ) → c .place < 15 → Nibbles ns → d + length ns ≤ 8 → 320 ≤ i → editImages c d ns own i ≡ own i
@@ -41,16 +44,16 @@ edit-behind c d (n ∷ ns) own i hx ok l h =
 -- Setting a route word of a node.
 image-word : (own : Own) (d x w b : ℕ) (t : Tree) → x < 15 → Image own d t → Image (setAt (imageAt d (16 + x)) w own) d (node b (setAt x w (routesOf t)) (kidsOf t))
 unfolding imageOf routesOf kidsOf
-image-word own d x w b t hx p j h = let e = p j h in image-set own d (16 + x) w d j (omega arith) (omega arith) ∙ grind (arith, tells)
+image-word own d x w b t hx p j h = let e = p j h in image-put own d (16 + x) w d j (omega arith) (omega arith) ∙ grind (arith, tells)
 
 -- Pointing at the next level's tree, which may have been cut.
 images-point : (own : Own) (d n w b : ℕ) (ns : List ℕ) (t u : Tree) → n < 16 → Nibbles ns → Image own d t → Images own (suc d) ns u → w ≡ blockOf (cut u) →
     Images (setAt (imageAt d n) w own) d (n ∷ ns) (node b (routesOf t) (setAt n (cut u) (kidsOf t)))
 unfolding Images imageOf kidsOf routesOf blockOf
 images-point own d n w b ns t u hn ok p q e =
-    ((λ j h. let o = p j h in image-set own d n w d j (omega arith) (omega arith) ∙ elim (eqb-tells j n) [ inl i ↦ grind (arith, tells) | inr i ↦ rw (i .0) (grind (arith, tells)) ]),
+    ((λ j h. let o = p j h in image-put own d n w d j (omega arith) (omega arith) ∙ elim (eqb-tells j n) [ inl i ↦ grind (arith, tells) | inr i ↦ rw (i .0) (grind (arith, tells)) ]),
      subst (λ z. Images (setAt (imageAt d n) w own) (suc d) ns z) (sym (setAt-hit n n (cut u) (kidsOf t) refl))
-       (images-stay own (setAt (imageAt d n) w own) (suc d) ns (cut u) (λ f j l m h. image-set own d n w f j (omega arith) (omega arith) ∙ grind (arith, tells)) (images-cut own (suc d) ns u ok q)))
+       (images-stay own (setAt (imageAt d n) w own) (suc d) ns (cut u) (λ f j l m h. image-put own d n w f j (omega arith) (omega arith) ∙ grind (arith, tells)) (images-cut own (suc d) ns u ok q)))
 
 -- the new blocks of levels d to d + k are none of them block 0
 abbrev pub Real : RouteEdit → ℕ → ℕ → Type 0

@@ -1,6 +1,5 @@
 -- Images of nodes among the own words.
 use mathlib.Core.Path.{_≡_, refl, ap, subst, _∙_}
-use mathlib.Core.Bool.{cond, _&&_}
 use mathlib.Core.List.{List, [], _∷_}
 use mathlib.Core.Logic.{inl, inr}
 use Prim.Native.Nat.{ℕ, zero, suc, _+_, _-_, _≤_, _<_}
@@ -9,19 +8,16 @@ use lib.Dec.{eqb}
 use lib.ListN.{length}
 use Rattle.std.proofs.shelf.Ways.{tells}
 use Rattle.std.proofs.shelf.Tests.{cases-lt}
-use Rattle.routes.specs.Memory.{setAt}
+use Rattle.own.specs.Layout.{imageAt}
+use Rattle.own.specs.Images.{noughts, bare}
 use Rattle.routes.specs.counts.Counts.{some, sum}
 use Rattle.routes.specs.keys.Keys.{Nibbles}
 use Rattle.routes.specs.tree.Trees.{Tree, none, routesOf, kidsOf, blockOf, there, count, weight}
 use Rattle.routes.specs.tree.Edits.{cut}
-use Rattle.routes.specs.repr.Images.{Own, imageAt, noughts, bare, imageOf, Image, Images}
+use Rattle.routes.specs.repr.Images.{Own, imageOf, Image, Images}
 use Rattle.routes.proofs.counts.Sums.{sum-same, sum-split}
 use Rattle.routes.proofs.tree.Trees.{count-kid, there-block, empty-kid, empty-route}
 use Rattle.routes.proofs.tree.Edits.{cut-cases}
-
--- One word of an image changed.
-pub image-set : (own : Own) (d i x e j : ℕ) → i < 32 → j < 32 → setAt (imageAt d i) x own (imageAt e j) ≡ cond (eqb e d && eqb j i) x (own (imageAt e j))
-image-set own d i x e j h l = grind (arith, tells)
 
 -- An image has the kids' blocks.
 pub image-kid : (t : Tree) (n : ℕ) → n < 16 → imageOf t n ≡ blockOf (kidsOf t n)

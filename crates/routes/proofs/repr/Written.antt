@@ -5,14 +5,15 @@ use mathlib.Core.Logic.{inl, inr}
 use Prim.Native.Nat.{ℕ, suc, _+_, _^_, _≤_, _<_}
 use native.Mathlib.Omega.{arith}
 use Rattle.std.proofs.shelf.Ways.{eqb-tells}
-use Rattle.std.proofs.shelf.Tests.{lt-ltb, le-ltb}
 use Rattle.words.specs.Slots.{bestFit, slotWord, childOf}
 use Rattle.words.proofs.Packing.{child-same, best-same}
+use Rattle.own.specs.Layout.{imageAt}
+use Rattle.own.proofs.Imaged.{packed-slot, packed-route}
 use Rattle.routes.specs.keys.Keys.{Nibbles}
 use Rattle.routes.specs.tree.Trees.{Tree, none, node, routesOf, kidsOf, blockOf, there, depth}
 use Rattle.routes.specs.tree.Edits.{RouteEdit, cut, edit}
 use Rattle.routes.specs.repr.Repr.{Repr}
-use Rattle.routes.specs.repr.Images.{Own, imageAt, packed, imageOf, Image, Images, Laid}
+use Rattle.routes.specs.repr.Images.{Own, imageOf, Image, Images, Laid}
 use Rattle.routes.specs.repr.Laws.{NodesWritten}
 use Rattle.routes.proofs.tree.Edits.{cut-cases, kid-edit}
 use Rattle.routes.proofs.repr.Nodes.{repr-kid, repr-block}
@@ -75,12 +76,13 @@ slot-stands im t n h p l =
 
 -- A laid node stands over kids that stand.
 node-stands : (val : ℕ → ℕ → ℕ) (own : Own) (d : ℕ) (t : Tree) → Image own d t → LaidAt val own d t → ((n : ℕ) → n < 16 → Repr val (kidsOf t n)) → Repr val t
-unfolding LaidAt Repr kidsOf routesOf packed
+unfolding LaidAt Repr kidsOf routesOf
 node-stands val own d none p l k = tt
-node-stands val own d (node b rs ks) p l k = (record {
-    real = l .real; small = l .small;
-    slots = λ n h. l .words n (omega arith) ∙ rw (lt-ltb n 16 h) (slot-stands (λ j. own (imageAt d j)) (node b rs ks) n h p (repr-block val (ks n) (k n h)));
-    words = λ x h. l .words (16 + x) (omega arith) ∙ rw (le-ltb (16 + x) 16 (omega arith)) (p (16 + x) (omega arith) ∙ image-route (node b rs ks) x) }, k)
+node-stands val own d (node b rs ks) p l k =
+    let im : ℕ → ℕ = λ j. own (imageAt d j) in
+    (record { real = l .real; small = l .small;
+      slots = λ n h. l .words n (omega arith) ∙ packed-slot im n h ∙ slot-stands im (node b rs ks) n h p (repr-block val (ks n) (k n h));
+      words = λ x h. l .words (16 + x) (omega arith) ∙ packed-route im x ∙ p (16 + x) (omega arith) ∙ image-route (node b rs ks) x }, k)
 
 -- A way of laid nodes stands with what hangs beside it.
 laid-stands : (val : ℕ → ℕ → ℕ) (own : Own) (d : ℕ) (ns : List ℕ) (t : Tree) → Images own d ns t → Beside val ns t → LaidAll val own d ns t → Repr val t

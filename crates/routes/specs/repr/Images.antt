@@ -1,11 +1,12 @@
 -- Images of nodes among a processor's own words: 16 kids and 15 route words for each level.
 -- Assumes nothing.
 use mathlib.Core.Path.{_≡_}
-use mathlib.Core.Bool.{Bool, true, cond, _&&_}
+use mathlib.Core.Bool.{cond}
 use mathlib.Core.List.{List, [], _∷_}
-use Prim.Native.Nat.{ℕ, zero, suc, _+_, _-_, _*_, _^_, _<_}
-use lib.Dec.{eqb, ltb}
-use Rattle.words.specs.Slots.{bestFit, slotWord, childOf}
+use Prim.Native.Nat.{ℕ, suc, _+_, _-_, _^_, _<_}
+use lib.Dec.{ltb}
+use Rattle.own.specs.Layout.{imageAt}
+use Rattle.own.specs.Images.{packed, bare}
 use Rattle.routes.specs.Memory.{setAt}
 use Rattle.routes.specs.tree.Trees.{Tree, routesOf, kidsOf, blockOf}
 use Rattle.routes.specs.tree.Edits.{RouteEdit}
@@ -13,35 +14,6 @@ use Rattle.routes.specs.tree.Edits.{RouteEdit}
 -- a processor's own words
 abbrev pub Own : Type 0
 Own = ℕ → ℕ
-
--- word i of the image of level d
-abbrev pub imageAt : ℕ → ℕ → ℕ
-imageAt d i = 32 + 32 * d + i
-
--- the block that was got as number i
-abbrev pub freshAt : ℕ → ℕ
-freshAt i = 320 + i
-
--- the block that is retired as number i
-abbrev pub retiredAt : ℕ → ℕ
-retiredAt i = 392 + i
-
--- what an image has of word i of a node: of a slot only the child
-abbrev pub taken : ℕ → ℕ → ℕ
-taken i x = cond (ltb i 16) (childOf x) x
-
--- the words of a node whose kids and route words are those of an image
-unfoldable pub packed : (ℕ → ℕ) → ℕ → ℕ
-packed im i = cond (ltb i 16) (slotWord (childOf (im i)) (bestFit (λ x. im (16 + x)) i)) (im i)
-
--- are the first n values 0
-unfoldable pub noughts : ℕ → (ℕ → ℕ) → Bool
-noughts zero f = true
-noughts (suc n) f = noughts n f && eqb (f n) 0
-
--- does the image of level d hold no kid and no route
-abbrev pub bare : Own → ℕ → Bool
-bare own d = noughts 31 (λ i. own (imageAt d i))
 
 -- the image of a tree's first node; noughts if there is none
 unfoldable pub imageOf : Tree → ℕ → ℕ

@@ -4,6 +4,7 @@ use mathlib.Core.Path.{_≡_}
 use mathlib.Core.List.{List}
 use Prim.Native.Nat.{ℕ, _+_, _≤_, _<_}
 use lib.ListN.{length}
+use Rattle.own.specs.Images.{taken}
 use Rattle.routes.specs.declared.Answer.the-variants.{Nothing}
 use Rattle.routes.specs.counts.Counts.{cnt}
 use Rattle.routes.specs.keys.Keys.{Nibbles}
@@ -11,7 +12,7 @@ use Rattle.routes.specs.tree.Trees.{Tree, blockOf, count, depth, Deep}
 use Rattle.routes.specs.tree.Edits.{RouteEdit, edit}
 use Rattle.routes.specs.tree.Walks.{walk}
 use Rattle.routes.specs.repr.Repr.{Repr, Follow}
-use Rattle.routes.specs.repr.Images.{Own, taken, imageOf, Images, editImages, Laid}
+use Rattle.routes.specs.repr.Images.{Own, imageOf, Images, editImages, Laid}
 
 -- A tree stands as long as words 0 to 30 of its blocks do.
 abbrev pub ReprStays : Type 0

@@ -1,0 +1,7 @@
+pub mod Reads
+pub mod Blocks
+pub mod Writes
+pub mod Turns
+pub mod Loops
+pub mod Stages
+pub mod Checks

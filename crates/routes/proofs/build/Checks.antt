@@ -1,0 +1,70 @@
+-- Whether a route is there to be taken out: by earlier pieces, or looked up in memory.
+use mathlib.Core.Path.{_≡_, refl, sym, ap, _∙_}
+use mathlib.Core.Bool.{Bool, true, false, cond}
+use mathlib.Core.List.{List, [], _∷_}
+use Prim.Native.Nat.{ℕ, suc, _+_, _/_, _≤_}
+use native.Mathlib.Nat.{add-zero, zero-add}
+use native.Mathlib.Omega.{arith}
+use lib.ListN.{length}
+use Rattle.words.specs.Address.{place}
+use Rattle.words.proofs.Addresses.{place-small}
+use Rattle.own.specs.declared.piece.PieceWords.{PieceWords}
+use Rattle.own.specs.declared.piece.Earlier.{Earlier}
+use Rattle.own.specs.declared.piece.Earlier.the-variants.{Put, Taken}
+use Rattle.own.specs.Pieces.{pieceOf, sameRoute, laterOf, earlierOf}
+use Rattle.routes.specs.declared.Piece.{Piece}
+use Rattle.routes.specs.Routes.{Route, has}
+use Rattle.routes.specs.table.Tables.{Clean}
+use Rattle.routes.specs.table.Lookups.{lookup, decides}
+use Rattle.routes.specs.tree.Trees.{Tree, none, routesOf, blockOf}
+use Rattle.routes.specs.tree.Walks.{down, Good}
+use Rattle.routes.specs.repr.Repr.{Repr}
+use Rattle.routes.specs.repr.Images.{Own}
+use Rattle.routes.specs.build.Checks.{Noted, thereAfter}
+use Rattle.routes.specs.build.Laws.{EarlierDecide}
+use Rattle.routes.proofs.table.Lookups.{has-lookup}
+use Rattle.routes.proofs.tree.Walks.{look-down}
+use Rattle.routes.proofs.repr.Nodes.{repr-down, route-word}
+use Rattle.routes.proofs.build.Reads.{none-below}
+
+-- The table's lookup is the node's at the end of the way.
+lookup-down : (t : Tree) (rs : List Route) (l b : ℕ) → Good t rs → Clean l b → routesOf (down b (l / 4) t) (place l b) ≡ lookup l b rs
+unfolding down
+lookup-down t rs l b g k = sym (ap (λ z. routesOf (down b z t) (place l b)) (zero-add (l / 4))) ∙ sym (look-down (l / 4) 0 b (place l b) t) ∙ g .looks l b k
+
+-- The route word in memory is the table's.
+pub check-word : (val : ℕ → ℕ → ℕ) (t : Tree) (rs : List Route) (l b c : ℕ) → Repr val t → Good t rs → Clean l b → c ≡ blockOf (down b (l / 4) t) → (c ≡ 0 → ⊥) → val c (16 + place l b) ≡ lookup l b rs
+check-word val t rs l b c r g k e z =
+    rw e (route-word val (down b (l / 4) t) (place l b) (place-small l b) (repr-down val b (l / 4) t r) (λ y. z (e ∙ y))) ∙ lookup-down t rs l b g k
+
+-- A way that ends before has no route.
+pub check-none : (t : Tree) (rs : List Route) (l b e : ℕ) → Good t rs → Clean l b → e ≤ l / 4 → down b e t ≡ none → has l b rs ≡ false
+unfolding routesOf
+check-none t rs l b e g k h n =
+    let m : down b (l / 4) t ≡ none = none-below b e (l / 4) t h n in
+    let z : lookup l b rs ≡ 0 = sym (lookup-down t rs l b g k) ∙ ap (λ z. routesOf z (place l b)) m in
+    rw (has-lookup l b rs, z)
+
+-- One more piece decides, or else those before it.
+later-decides : (e : Earlier) (w q : PieceWords) (before : Bool) → thereAfter (laterOf e w q) before ≡ cond (sameRoute w q) (q .puts) (thereAfter e before)
+unfolding thereAfter
+later-decides e w q before = go (sameRoute w q) (q .puts)
+  where
+    go : (s u : Bool) → thereAfter (cond s (cond u Put Taken) e) before ≡ cond s u (thereAfter e before)
+    go true true = refl
+    go true false = refl
+    go false u = refl
+
+-- Pieces from number k on, behind those before.
+earlier-from : (own : Own) (w : PieceWords) (k : ℕ) (ps : List Piece) (before : Bool) → Noted own k ps → thereAfter (earlierOf own w (k + length ps)) before ≡ decides (w .len) (w .bits) ps (thereAfter (earlierOf own w k) before)
+unfolding Noted decides earlierOf
+earlier-from own w k [] before n = ap (λ z. thereAfter (earlierOf own w z) before) (add-zero k)
+earlier-from own w k (p ∷ ps) before n =
+    let q : k + suc (length ps) ≡ suc k + length ps = omega arith in
+    ap (λ z. thereAfter (earlierOf own w z) before) q ∙ earlier-from own w (suc k) ps before (n .1)
+      ∙ ap (λ z. decides (w .len) (w .bits) ps z) (later-decides (earlierOf own w k) w (pieceOf own k) before ∙ ap (λ z. cond (sameRoute w z) (z .puts) (thereAfter (earlierOf own w k) before)) (n .0))
+
+-- The last earlier piece with a route says whether it is there.
+pub earlier-decide : EarlierDecide
+unfolding earlierOf thereAfter
+earlier-decide own w ps before n = ap (λ z. thereAfter (earlierOf own w z) before) (sym (zero-add (length ps))) ∙ earlier-from own w 0 ps before n

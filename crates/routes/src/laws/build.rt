@@ -1,0 +1,16 @@
+// Building a change: what earlier pieces decide, and the new tree piece by piece.
+ghost use Rattle.routes.specs.build.Laws.{EarlierDecide, PiecesEdited, PiecesWritten, ChangesBuilt};
+
+pub fn earlier_pieces_decide() -> u8
+    ensures { λ _. ⌜ EarlierDecide ⌝ }
+{
+    0
+}
+
+pub fn changes_are_built() -> u8
+    ensures edited { λ _. ⌜ PiecesEdited ⌝ }
+    ensures written { λ _. ⌜ PiecesWritten ⌝ }
+    ensures built { λ _. ⌜ ChangesBuilt ⌝ }
+{
+    0
+}

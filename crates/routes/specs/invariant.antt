@@ -1,0 +1,11 @@
+pub mod Ghosts
+pub mod Memories
+pub mod Registers
+pub mod Readers
+pub mod Holders
+pub mod Checking
+pub mod Gathering
+pub mod Building
+pub mod Retiring
+pub mod Writers
+pub mod Inv

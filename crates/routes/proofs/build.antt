@@ -5,3 +5,4 @@ pub mod Turns
 pub mod Loops
 pub mod Stages
 pub mod Checks
+pub mod Full

@@ -55,11 +55,13 @@ module _ (own : Own) (c : RouteEdit) (a first : ℕ) (hx : c .place < 15) (new :
 
 -- a piece among the own words
 module _ (p : PieceWords) (have first : ℕ) (own : Own) (short : p .len ≤ 32) where
+  -- its edit, and the own words without images of nodes that are not there
   abbrev c : RouteEdit
   c = wordsEdit p (λ e. own (freshAt (first + e)))
   abbrev blank : Own
   blank = blankedIn have (deepOf p) own
 
+  -- The new blocks stand there too.
   fresh-blank : (e : ℕ) → c .fresh e ≡ blank (freshAt (first + e))
   fresh-blank e = sym (blanked-outside have (deepOf p) own (freshAt (first + e)) (omega arith) (inr (omega arith)))
 

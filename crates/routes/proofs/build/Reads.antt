@@ -1,5 +1,5 @@
 -- Reading the nodes on a way, word by word.
-use mathlib.Core.Path.{_≡_, sym, ap, subst, _∙_}
+use mathlib.Core.Path.{_≡_, ap, subst, _∙_}
 use mathlib.Core.Logic.{_⊎_, inl, inr}
 use Prim.Native.Nat.{ℕ, zero, suc, _+_, _-_, _≤_, _<_}
 use native.Mathlib.Nat.{add-zero, add-suc}
@@ -7,7 +7,9 @@ use native.Mathlib.Omega.{arith}
 use Rattle.std.proofs.shelf.Ways.{tells}
 use Rattle.std.proofs.shelf.Tests.{cases-lt, cases-eq}
 use Rattle.words.specs.Address.{nib}
+use Rattle.words.specs.Slots.{childOf}
 use Rattle.words.proofs.Addresses.{nib-small}
+use Rattle.words.proofs.Packing.{child-same}
 use Rattle.own.specs.Layout.{imageAt, retiredAt}
 use Rattle.own.specs.Functions.{blankedIn}
 use Rattle.own.specs.Images.{taken}
@@ -18,7 +20,7 @@ use Rattle.routes.specs.repr.Images.{Own, imageOf, Images}
 use Rattle.routes.specs.keys.Keys.{nibs}
 use Rattle.routes.specs.build.Reads.{Reading, Have}
 use Rattle.routes.proofs.tree.Trees.{count-kid, count-block}
-use Rattle.routes.proofs.repr.Nodes.{repr-down, repr-none, node-read}
+use Rattle.routes.proofs.repr.Nodes.{repr-down, repr-block, repr-none, node-read}
 use Rattle.routes.proofs.repr.Images.{image-kid, image-none}
 
 -- Below no tree there is none.
@@ -62,25 +64,27 @@ read-word val own own' t retired a d i b hd hi r g w p s = record {
       | inr q ↦ s (retiredAt (retired + e)) (omega arith) (omega arith) ∙ g .blocks e (omega arith) ];
     here = g .here; real = g .real }
 
--- A level is read: the next one.
-pub read-level : (own : Own) (t : Tree) (retired a d b c : ℕ) → Reading own t retired a d 31 b → c ≡ own (imageAt d (nib d a)) → (c ≡ 0 → ⊥) → Reading own t retired a (suc d) 0 c
+-- A level is read: its image has the block of the next node.
+pub read-child : (val : ℕ → ℕ → ℕ) (own : Own) (t : Tree) (retired a d b : ℕ) → Repr val t → Reading own t retired a d 31 b → childOf (own (imageAt d (nib d a))) ≡ blockOf (down a (suc d) t)
 unfolding down
-read-level own t retired a d b c g e z =
-    record { words = λ f j h l. g .words f j h (omega arith); blocks = λ f l. g .blocks f (omega arith);
-      here = (let s = nib-small d a in e ∙ g .words d (nib d a) (omega arith) (omega arith) ∙ image-kid (down a d t) (nib d a) (nib-small d a)); real = z }
+read-child val own t retired a d b r g =
+    let s = nib-small d a in
+    ap childOf (g .words d (nib d a) (omega arith) (omega arith) ∙ image-kid (down a d t) (nib d a) s) ∙ child-same (blockOf (kidsOf (down a d t) (nib d a))) (repr-block val (down a (suc d) t) (repr-down val a (suc d) t r))
+
+-- If it is there, it is read next.
+pub read-level : (own : Own) (t : Tree) (retired a d b c : ℕ) → Reading own t retired a d 31 b → c ≡ blockOf (down a (suc d) t) → (c ≡ 0 → ⊥) → Reading own t retired a (suc d) 0 c
+read-level own t retired a d b c g e z = record { words = λ f j h l. g .words f j h (omega arith); blocks = λ f l. g .blocks f (omega arith); here = e; real = z }
 
 -- All are read: it was the last level, or there is no next node.
-pub read-end : (val : ℕ → ℕ → ℕ) (own : Own) (t : Tree) (retired a d b deep : ℕ) → Repr val t → Reading own t retired a d 31 b → d ≤ deep → (d ≡ deep) ⊎ (own (imageAt d (nib d a)) ≡ 0) →
+pub read-end : (val : ℕ → ℕ → ℕ) (own : Own) (t : Tree) (retired a d b deep : ℕ) → Repr val t → Reading own t retired a d 31 b → d ≤ deep → (d ≡ deep) ⊎ (blockOf (down a (suc d) t) ≡ 0) →
     Have own t retired a (suc d) deep
-unfolding down blockOf
+unfolding blockOf
 read-end val own t retired a d b deep r g l k =
-    let s = nib-small d a in
     record { words = λ e j h m. g .words e j m (omega arith); blocks = λ e h. g .blocks e (omega arith); few = omega arith;
       real = λ e h z. g .real (g .here ∙ ap blockOf (none-below a e d t (omega arith) (repr-none val (down a e t) (repr-down val a e t r) z)));
       end = λ h. elim k [
           inl e ↦ absurd (omega arith)
-        | inr e ↦ repr-none val (down a (suc d) t) (repr-down val a (suc d) t r)
-                    (sym (image-kid (down a d t) (nib d a) s) ∙ sym (g .words d (nib d a) (omega arith) (omega arith)) ∙ e) ] }
+        | inr e ↦ repr-none val (down a (suc d) t) (repr-down val a (suc d) t r) e ] }
 
 -- There is nothing to read.
 pub have-none : (own : Own) (t : Tree) (retired a deep : ℕ) → t ≡ none → Have own t retired a 0 deep

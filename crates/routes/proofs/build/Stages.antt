@@ -1,12 +1,13 @@
 -- A change built piece by piece.
 use mathlib.Core.Path.{_≡_, refl, sym, ap, subst}
-use mathlib.Core.List.{List, _∷_, List·Memᴰ·head, List·Memᴰ·tail}
-use Prim.Native.Nat.{ℕ, _+_, _-_, _/_}
+use mathlib.Core.List.{List, [], _∷_, List·Memᴰ, List·Memᴰ·head, List·Memᴰ·tail}
+use Prim.Native.Nat.{ℕ, _+_, _-_, _*_, _/_, _^_, _≤_, _<_}
 use native.Mathlib.Omega.{arith}
+use lib.ListN.{length}
 use Rattle.words.proofs.Addresses.{place-small}
-use Rattle.own.specs.Layout.{freshAt}
+use Rattle.own.specs.Layout.{freshAt, retiredAt}
 use Rattle.routes.specs.declared.Piece.{Piece}
-use Rattle.routes.specs.Routes.{Route, pieces}
+use Rattle.routes.specs.Routes.{Route, Table, pieces}
 use Rattle.routes.specs.counts.Counts.{cnt}
 use Rattle.routes.specs.table.Tables.{Clean}
 use Rattle.routes.specs.keys.Keys.{wayOf}
@@ -23,8 +24,28 @@ use Rattle.routes.proofs.table.Sound.{clean-parts}
 use Rattle.routes.proofs.keys.Nibs.{nibs-ok, nibs-length}
 use Rattle.routes.proofs.tree.Trees.{depth-few}
 use Rattle.routes.proofs.tree.Good.{good-piece}
+use Rattle.routes.proofs.build.Blocks.{held-stays}
 use Rattle.routes.proofs.build.Writes.{write-end}
 use Rattle.routes.proofs.build.Turns.{edit-turn}
+
+-- A piece wants at most 9 blocks.
+pub wants-few : (ps : List Piece) (rs qs : List Route) → pieces ps (Table rs) ≡ Table qs → wants ps ≤ 9 * length ps
+unfolding wants
+wants-few [] rs qs e = omega arith
+wants-few (p ∷ ps) rs qs e =
+    let n = pieces-cons p ps rs qs e in
+    omega (arith, clean-parts (p .len) (p .bits) (piece-clean p rs (n .0) (n .1)) .short, wants-few ps (n .0) qs (n .2))
+
+-- It begins with the published tree, and all pieces.
+pub stage-begin : (val : ℕ → ℕ → ℕ) (own : Own) (T : Tree) (need root : ℕ) (rs qs : List Route) (ps : List Piece) → Work val own T T need 0 0 root → Good T rs → pieces ps (Table rs) ≡ Table qs →
+    ((p : Piece) → List·Memᴰ p ps → p .tells < 2 ^ 32) → wants ps ≤ need → Stage val own T T need 0 0 root rs qs ps
+stage-begin val own T need root rs qs ps w g e s h = record { work = w; good = g; goes = e; small = s; room = omega arith; slack = omega arith }
+
+-- Own words elsewhere do not matter.
+pub stage-stays : (val : ℕ → ℕ → ℕ) (own own' : Own) (T W : Tree) (need used retired root : ℕ) (rs qs : List Route) (ps : List Piece) → need ≤ 72 → ((i : ℕ) → freshAt 0 ≤ i → i < retiredAt retired → own' i ≡ own i) →
+    Stage val own T W need used retired root rs qs ps → Stage val own' T W need used retired root rs qs ps
+stage-stays val own own' T W need used retired root rs qs ps few h s = record { good = s .good; goes = s .goes; small = s .small; room = s .room; slack = s .slack;
+    work = record { held = held-stays own own' T W need used retired root few h (s .work .held); repr = s .work .repr } }
 
 -- The next piece is clean.
 pub stage-clean : (val : ℕ → ℕ → ℕ) (own : Own) (T W : Tree) (need used retired root : ℕ) (rs qs : List Route) (p : Piece) (ps : List Piece) →

@@ -28,6 +28,7 @@ use Rattle.routes.proofs.build.Blocks.{held-zero, path-down}
 -- deep: the level of the route; have: how many nodes on its way were read
 module _ (val : ℕ → ℕ → ℕ) (own : Own) (T W : Tree) (c : RouteEdit) (a deep have need used retired root : ℕ) (hx : c .place < 15) (hd : deep ≤ 8) (room : used + suc deep ≤ need) (few : need ≤ 72)
          (new : (e : ℕ) → c .fresh e ≡ own (freshAt (used + e))) (k : Work val own T W need used retired root) (g : Have own W retired a have deep) where
+  -- the way, the edited tree, and the own words after the turn
   abbrev ns : List ℕ
   ns = nibs 0 deep a
   abbrev u : Tree
@@ -46,6 +47,7 @@ module _ (val : ℕ → ℕ → ℕ) (own : Own) (T W : Tree) (c : RouteEdit) (a
   fresh-real : (e : ℕ) → e ≤ deep → c .fresh e ≡ 0 → ⊥
   fresh-real e l z = let i = fresh-in e l .0 in let o = k .held .once (c .fresh e) in let j = eq-eqb (c .fresh e) 0 z in grind (arith, tells)
 
+  -- The same, for the whole way.
   all-real : Real c 0 (length ns)
   all-real e l m = fresh-real e (omega (arith, nibs-length 0 deep a))
 
@@ -66,6 +68,7 @@ module _ (val : ℕ → ℕ → ℕ) (own : Own) (T W : Tree) (c : RouteEdit) (a
   pub own-behind : (i : ℕ) → freshAt 0 ≤ i → own' i ≡ own i
   own-behind i l = edit-behind c 0 ns (blankedIn have deep own) i hx (nibs-ok 0 deep a) (omega (arith, nibs-length 0 deep a)) l ∙ grind (arith, tells)
 
+  -- The fresh blocks stay.
   fresh-same : freshBlocks own' need ≡ freshBlocks own need
   fresh-same = seg-same own' own (freshAt 0) (freshAt 0) need (λ j l. own-behind (freshAt 0 + j) (omega arith))
 

@@ -57,6 +57,11 @@ unfolding Repr blockOf routesOf
 slot-fit val none n h r z = absurd (z refl)
 slot-fit val (node b rs ks) n h r z = ap fitOf (r .0 .slots n h) ∙ fit-slot (blockOf (ks n)) (bestFit rs n) (repr-block val (ks n) (r .1 n h)) (best-inside rs n)
 
+-- On a way the child of the slot is the next node's block.
+pub slot-down : (val : ℕ → ℕ → ℕ) (t : Tree) (a d b : ℕ) → Repr val t → b ≡ blockOf (down a d t) → (b ≡ 0 → ⊥) → childOf (val b (nib d a)) ≡ blockOf (down a (suc d) t)
+unfolding down
+slot-down val t a d b r e z = rw e (slot-child val (down a d t) (nib d a) (nib-small d a) (repr-down val a d t r) (λ y. z (e ∙ y)))
+
 -- A route word is the node's.
 pub route-word : (val : ℕ → ℕ → ℕ) (t : Tree) (x : ℕ) → x < 15 → Repr val t → (blockOf t ≡ 0 → ⊥) → val (blockOf t) (16 + x) ≡ routesOf t x
 unfolding Repr blockOf routesOf

@@ -43,11 +43,12 @@ beside-edit val c d (n ∷ ns) t ok o =
     ((λ m h e. elim (eqb-tells m n) [ inl i ↦ absurd (e (i .1)) | inr i ↦ rw (i .0) (o .0 m h e) ]),
      subst (λ z. Beside val ns z) (sym (kid-edit c d n ns t)) (beside-cut val ns (edit c (suc d) ns (kidsOf t n)) (ok .1) (beside-edit val c (suc d) ns (kidsOf t n) (ok .1) (o .1))))
 
--- the nodes on a way are laid in their blocks
+-- a tree's first node, if there is one, is laid in its block
 unfoldable LaidAt : (ℕ → ℕ → ℕ) → Own → ℕ → Tree → Type 0
 LaidAt val own d none = Unit {0}
 LaidAt val own d (node b rs ks) = Laid val own d b
 
+-- so are the nodes on a way
 unfoldable LaidAll : (ℕ → ℕ → ℕ) → Own → ℕ → List ℕ → Tree → Type 0
 LaidAll val own d [] t = LaidAt val own d t
 LaidAll val own d (n ∷ ns) t = LaidAt val own d t × LaidAll val own (suc d) ns (kidsOf t n)

@@ -3,18 +3,18 @@ use mathlib.Core.Path.{_≡_, refl}
 use mathlib.Core.Bool.{false, _&&_}
 use mathlib.Core.List.{List, [], _∷_}
 use mathlib.Core.Logic.{inl, inr}
-use Prim.Native.Nat.{ℕ, _+_}
+use Prim.Native.Nat.{ℕ, _+_, _≤_}
 use native.Mathlib.Omega.{arith}
 use lib.Dec.{eqb}
 use lib.ListN.{length}
 use Rattle.std.proofs.shelf.Ways.{tells as tests}
 use Rattle.std.proofs.shelf.Tests.{cases-bool}
 use Rattle.routes.specs.declared.Piece.{Piece}
-use Rattle.routes.specs.Routes.{Route, without, has, Table, piece}
+use Rattle.routes.specs.Routes.{Route, without, has, Table, piece, pieces}
 use Rattle.routes.specs.counts.Counts.{bit}
 use Rattle.routes.specs.table.Tables.{Unique}
 use Rattle.routes.specs.table.Laws.{PieceLengths}
-use Rattle.routes.proofs.table.Pieces.{piece-table}
+use Rattle.routes.proofs.table.Pieces.{piece-table, pieces-cons}
 
 -- Taking out what is not there changes nothing.
 pub without-none : (l b : ℕ) (rs : List Route) → has l b rs ≡ false → without l b rs ≡ rs
@@ -68,3 +68,13 @@ piece-length p rs qs u e =
     let w = length-without (p .len) (p .bits) rs u in
     let c = piece-table p rs qs e in
     grind arith
+
+-- Each piece takes out at most one.
+pub pieces-length : (ps : List Piece) (rs qs : List Route) → Unique rs → pieces ps (Table rs) ≡ Table qs → length rs ≤ length qs + length ps
+unfolding pieces
+pieces-length [] rs qs u e = let i : rs ≡ qs = cc in rw i (omega arith)
+pieces-length (p ∷ ps) rs qs u e =
+    let c = pieces-cons p ps rs qs e in
+    let ih = pieces-length ps (c .0) qs (unique-piece p rs (c .0) u (c .1)) (c .2) in
+    let l = piece-length p rs (c .0) u (c .1) in
+    grind (arith, tests)

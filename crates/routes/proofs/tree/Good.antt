@@ -48,6 +48,7 @@ module _ (p : Piece) (fresh : ℕ → ℕ) (t : Tree) (rs qs : List Route) (e : 
   abbrev after : Tree
   after = edit (editOf p fresh) 0 (wayOf (p .len) (p .bits)) t
 
+  -- The piece is clean.
   clean' : Clean (p .len) (p .bits)
   clean' = clean-parts (p .len) (p .bits) (piece-clean p rs qs e)
 

@@ -63,17 +63,19 @@ unfolding depth
 depth-few [] t = there-one t
 depth-few (n ∷ ns) t = omega (arith, there-one t, depth-few ns (kidsOf t n))
 
--- Where there is no tree, nothing is looked up, counted or passed.
+-- Where there is no tree, nothing is looked up.
 pub look-none : (ns : List ℕ) (x : ℕ) → look ns x none ≡ 0
 unfolding look routesOf kidsOf
 look-none [] x = refl
 look-none (n ∷ ns) x = look-none ns x
 
+-- No way has a block there.
 pub path-none : (b : ℕ) (ns : List ℕ) → path b ns none ≡ 0
 unfolding path top kidsOf
 path-none b [] = refl
 path-none b (n ∷ ns) = omega (arith, path-none b ns)
 
+-- And no node.
 pub depth-none : (ns : List ℕ) → depth ns none ≡ 0
 unfolding depth there kidsOf
 depth-none [] = refl

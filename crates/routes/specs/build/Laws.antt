@@ -1,18 +1,21 @@
 -- What is proved of building a change.
 -- Assumes nothing.
 use mathlib.Core.Path.{_≡_}
-use mathlib.Core.Bool.{Bool}
+use mathlib.Core.Bool.{Bool, true}
 use mathlib.Core.List.{List, [], _∷_}
-use Prim.Native.Nat.{ℕ, suc, _+_, _/_, _≤_}
+use Prim.Native.Nat.{ℕ, suc, _+_, _/_, _≤_, _<_}
+use lib.Dec.{eqb}
 use lib.ListN.{length}
 use Rattle.own.specs.declared.piece.PieceWords.{PieceWords}
 use Rattle.own.specs.Pieces.{earlierOf}
 use Rattle.routes.specs.declared.Piece.{Piece}
-use Rattle.routes.specs.Routes.{Route}
+use Rattle.routes.specs.Routes.{Route, Table, pieces, tooMuch}
+use Rattle.routes.specs.counts.Counts.{bit, cnt}
 use Rattle.routes.specs.table.Lookups.{decides}
 use Rattle.routes.specs.keys.Keys.{wayOf}
-use Rattle.routes.specs.tree.Trees.{Tree, depth}
+use Rattle.routes.specs.tree.Trees.{Tree, count, depth}
 use Rattle.routes.specs.tree.Edits.{editOf}
+use Rattle.routes.specs.tree.Walks.{Good}
 use Rattle.routes.specs.repr.Images.{Own}
 use Rattle.routes.specs.build.Reads.{Have, edited}
 use Rattle.routes.specs.build.Writes.{Write}
@@ -44,3 +47,9 @@ abbrev pub ChangesBuilt : Type 0
 ChangesBuilt =
     (val : ℕ → ℕ → ℕ) (own : Own) (T W : Tree) (need used retired root : ℕ) (rs qs : List Route) →
     Stage val own T W need used retired root rs qs [] → Built val own T W need used retired root qs
+
+-- If each block is block 0, a node's of the table's tree or one of at most 71, there are fewer than the routes before and after a change may want.
+abbrev pub FullIsTooMuch : Type 0
+FullIsTooMuch =
+    (blocks : ℕ) (t : Tree) (xs : List ℕ) (rs qs : List Route) (ps : List Piece) → ((b : ℕ) → b < blocks → 1 ≤ bit (eqb b 0) + count b t + cnt b xs) → length xs ≤ 71 → Good t rs →
+    length ps ≤ 8 → pieces ps (Table rs) ≡ Table qs → tooMuch blocks rs qs ≡ true

@@ -12,13 +12,15 @@ use Rattle.routes.specs.tree.Edits.{RouteEdit, edit}
 use Rattle.routes.specs.repr.Repr.{Repr}
 use Rattle.routes.specs.repr.Images.{Own, Images}
 
--- the blocks that were got for a change, those of them that are not used yet, and the blocks that it retires
+-- the blocks that were got for a change
 abbrev pub freshBlocks : Own → ℕ → List ℕ
 freshBlocks own need = seg own (freshAt 0) need
 
+-- those of them that are not used yet
 abbrev pub unusedBlocks : Own → ℕ → ℕ → List ℕ
 unusedBlocks own need used = seg own (freshAt used) (need - used)
 
+-- the blocks that it retires
 abbrev pub retiredBlocks : Own → ℕ → List ℕ
 retiredBlocks own retired = seg own (retiredAt 0) retired
 

@@ -45,9 +45,10 @@ bitsBehind n (m ∷ ms) = bitsBehind (16 * n + m) ms
 abbrev pub extraOf : ℕ → ℕ
 extraOf x = cond (ltb x 1) 0 (cond (ltb x 3) 1 (cond (ltb x 7) 2 3))
 
--- the prefix of a key
+-- the length of the prefix of a key
 unfoldable pub lenOf : List ℕ → ℕ → ℕ
 lenOf ns x = 4 * length ns + extraOf x
 
+-- and its bits
 unfoldable pub bitsOf : List ℕ → ℕ → ℕ
 bitsOf ns x = (bitsBehind 0 ns * 2 ^ extraOf x + (x + 1 - 2 ^ extraOf x)) * 2 ^ (32 - lenOf ns x)

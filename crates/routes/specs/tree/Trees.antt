@@ -6,18 +6,22 @@ use Prim.Native.Nat.{ℕ, zero, suc, _+_, _<_}
 use lib.Dec.{eqb}
 use Rattle.routes.specs.counts.Counts.{bit, some, sum}
 
+-- none where there is no node
 pub data Tree : Type 0 where
   none : Tree
   node : (block : ℕ) (routes : ℕ → ℕ) (kids : ℕ → Tree) → Tree
 
+-- the route words of the first node
 unfoldable pub routesOf : Tree → ℕ → ℕ
 routesOf none x = 0
 routesOf (node b rs ks) x = rs x
 
+-- its kids
 unfoldable pub kidsOf : Tree → ℕ → Tree
 kidsOf none n = none
 kidsOf (node b rs ks) n = ks n
 
+-- its block, or 0
 unfoldable pub blockOf : Tree → ℕ
 blockOf none = 0
 blockOf (node b rs ks) = b

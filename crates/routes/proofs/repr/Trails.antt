@@ -20,7 +20,7 @@ use Rattle.routes.proofs.repr.Nodes.{repr-kid, repr-real, slot-child, slot-fit
 
 -- Where there is no tree, a walk finds no more.
 walk-none : (k d a : ℕ) (best : Answer) → walk k d a none best ≡ best
-unfolding walk kidsOf routesOf fitBelow fitOr better
+unfolding walk kidsOf routesOf fitBelow fitOr
 walk-none zero d a best = refl
 walk-none (suc k) d a best = walk-none k (suc d) a best
 

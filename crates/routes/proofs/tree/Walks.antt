@@ -50,13 +50,13 @@ ahead len w best = cond (eqb w 0) best (Found len (w % 2 ^ 32))
 
 -- So does a node's word, in the order of the extra lengths.
 better-or : (d x w : ℕ) (f : Option Fit) (best : Answer) → better d (fitOr x w f) best ≡ ahead (4 * d + x) w (better d f best)
-unfolding better fitOr
+unfolding fitOr
 better-or d x w f best = elim (eqb-tells w 0) [ inl e ↦ rw (e .0) | inr e ↦ rw (e .0) ]
 
 -- The best of a node is the best of its four candidates.
 pub better-four : (d n : ℕ) (rs : ℕ → ℕ) (best : Answer) → better d (bestFit rs n) best ≡
     ahead (4 * d + 3) (rs (candidate 3 n)) (ahead (4 * d + 2) (rs (candidate 2 n)) (ahead (4 * d + 1) (rs (candidate 1 n)) (ahead (4 * d + 0) (rs (candidate 0 n)) best)))
-unfolding better fitBelow
+unfolding fitBelow
 better-four d n rs best = simp better-or
 
 -- Seeking goes the same way, four lengths at a time.

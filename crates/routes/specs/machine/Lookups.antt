@@ -2,15 +2,12 @@
 -- Assumes nothing.
 use mathlib.Core.Path.{_≡_}
 use mathlib.Core.Bool.{cond, _||_}
-use Prim.Native.Nat.{ℕ, _+_, _*_, _^_, _<_, _≤_}
+use Prim.Native.Nat.{ℕ, _+_, _^_, _<_, _≤_}
 use lib.Dec.{eqb}
-use Rattle.std.specs.declared.option.Option.{Option}
-use Rattle.std.specs.declared.option.Option.the-variants.{Some, None}
 use Rattle.words.specs.Address.{nib}
 use Rattle.words.specs.Slots.{childOf, fitOf}
-use Rattle.words.specs.declared.slot.Fit.{Fit}
 use Rattle.routes.specs.declared.Answer.{Answer}
-use Rattle.routes.specs.declared.Answer.the-variants.{Found, Nothing}
+use Rattle.routes.specs.declared.Answer.the-variants.{Nothing}
 use Rattle.routes.specs.declared.act.Act.{Act}
 use Rattle.routes.specs.declared.act.Act.the-variants.{Load, Swap}
 use Rattle.routes.specs.declared.lookup.Lookup.{Lookup}
@@ -18,12 +15,8 @@ use Rattle.routes.specs.declared.lookup.Lookup.the-variants.{Epoch, Announce, 
 use Rattle.routes.specs.declared.lookup.LookupNext.{LookupNext}
 use Rattle.routes.specs.declared.lookup.LookupNext.the-variants.{On, Told}
 use Rattle.routes.specs.Memory.{Mem}
+use Rattle.routes.specs.tree.Walks.{better}
 use Rattle.routes.specs.machine.Acts.{Moved}
-
--- the longest route so far, after a slot of level d
-abbrev pub better : ℕ → Option Fit → Answer → Answer
-better d None best = best
-better d (Some f) best = Found (4 * d + f .extra) (f .tells)
 
 abbrev pub LookupOk : Lookup → Type 0
 LookupOk (Epoch a) = Unit {0}

@@ -23,7 +23,7 @@ down a zero t = t
 down a (suc e) t = kidsOf (down a e t) (nib e a)
 
 -- a route that fits at level d goes before what was best above
-unfoldable pub better : ℕ → Option Fit → Answer → Answer
+abbrev pub better : ℕ → Option Fit → Answer → Answer
 better d None best = best
 better d (Some f) best = Found (4 * d + f .extra) (f .tells)
 

@@ -11,16 +11,16 @@ ghost use Rattle.routes.specs.Promise.{FindsLongest, OneRoute, OnlyWhatFits, O
 ghost use Rattle.routes.specs.Examples.{ExamplesHold};
 ghost use Rattle.routes.specs.machine.Cpus.{Ready, Stepped, Begun};
 
-mod act;
+pub mod act;
 mod header;
 pub mod laws;
-mod lookup;
+pub mod lookup;
 mod node;
 mod pool;
 mod prefix;
 mod refusal;
-mod update;
-mod work;
+pub mod update;
+pub mod work;
 
 use lookup::LookupNext;
 use lookup::step_lookup;

@@ -69,7 +69,7 @@ fn after_tail(tail: u32) -> Phase
 }
 
 // The replaced node after node i, or 0.
-fn follower(job: Job, i: u32, own: &[u64]) -> u32
+pub fn follower(job: Job, i: u32, own: &[u64]) -> u32
     requires { ⌜ i < 72 ⌝ ∗ ⌜ length (now own) ≡ 4096 ⌝ }
     ensures { λ r. ⌜ r ≡ followerIn job i (now (own .entry)) ⌝ }
 {

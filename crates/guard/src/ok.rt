@@ -1,5 +1,4 @@
 // Are registers in the ranges that a turn needs?
-ghost use Prim.Native.Nat.{_≤_};
 ghost use lib.Dec.{T};
 ghost use lib.ListN.{length};
 ghost use mathlib.Core.Path.{_≡_};

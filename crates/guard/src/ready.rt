@@ -1,8 +1,6 @@
 // May the next turn be taken?
-ghost use mathlib.Core.Path.{_≡_};
-ghost use Prim.Native.Nat.{_<_, _≤_};
+ghost use Prim.Native.Nat.{_<_};
 ghost use lib.Dec.{T};
-ghost use lib.ListN.{length};
 ghost use Rattle.routes.specs.machine.Acts.{MayDo};
 ghost use Rattle.routes.specs.machine.Cpus.{Ready};
 ghost use Rattle.guard.specs.Steps.{GuardedStep};

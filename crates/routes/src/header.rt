@@ -1,6 +1,6 @@
 // The words of the header, block 0. Each function asks the memory for one thing.
 ghost use mathlib.Core.Path.{_≡_};
-ghost use Prim.Native.Nat.{ℕ, _+_, _^_, _<_, _≤_};
+ghost use Prim.Native.Nat.{_+_, _^_, _<_};
 ghost use Rattle.routes.specs.declared.act.Act.the-variants.{Load, Store, Swap};
 ghost use Rattle.routes.specs.machine.Acts.{MayDo, Did};
 use super::Memory;

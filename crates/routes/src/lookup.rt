@@ -1,6 +1,6 @@
 // A lookup, a turn at a time.
 ghost use mathlib.Core.Path.{_≡_};
-ghost use Prim.Native.Nat.{ℕ, _+_, _*_, _<_, _≤_};
+ghost use Prim.Native.Nat.{_+_, _*_, _<_, _≤_};
 ghost use Rattle.words.specs.Slots.{InRange};
 ghost use Rattle.routes.specs.machine.Acts.{MayDo};
 ghost use Rattle.routes.specs.machine.Lookups.{LookupOk, LookupMoved, lookupAct};

@@ -1,6 +1,6 @@
 // Blocks from the pool and back to it, and fences. Each function asks the memory for one thing.
 ghost use mathlib.Core.Path.{_≡_};
-ghost use Prim.Native.Nat.{ℕ, _+_, _<_};
+ghost use Prim.Native.Nat.{_<_};
 ghost use lib.ListN.{length, set};
 ghost use Rattle.own.specs.Layout.{freshAt};
 ghost use Rattle.routes.specs.declared.act.Act.the-variants.{Fence, Obtain, Release};

@@ -1,7 +1,5 @@
 // An update, a turn at a time: its phases, each a machine in a file of its own.
 ghost use mathlib.Core.Path.{_≡_};
-ghost use Prim.Native.Nat.{ℕ, _+_};
-ghost use Rattle.routes.specs.machine.Acts.{MayDo};
 ghost use Rattle.routes.specs.machine.Updates.{UpdateReady, UpdateMoved, afterLock};
 use super::Answer;
 use super::Memory;

@@ -1,6 +1,5 @@
 // What a processor has under way, and how it begins.
 ghost use mathlib.Core.Path.{_≡_};
-ghost use Prim.Native.Nat.{ℕ, _+_, _<_, _≤_};
 ghost use lib.ListN.{length};
 ghost use Rattle.routes.specs.machine.Begins.{stored as storedOf, noted as notedOf, beginUpdate, PieceFits, PiecesFit};
 use super::Piece;

@@ -1,7 +1,6 @@
 -- A lookup ends within 13 turns.
 use mathlib.Core.Bool.{_||_}
 use mathlib.Core.Logic.{inl, inr}
-use Prim.Native.Nat.{ℕ}
 use native.Mathlib.Omega.{arith}
 use lib.Dec.{eqb}
 use Rattle.std.proofs.shelf.Tests.{cases-bool}

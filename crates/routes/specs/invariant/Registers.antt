@@ -1,7 +1,7 @@
 -- What is read off registers: who holds the lock, what a lookup has loaded and announced, what a scan has passed.
 -- Assumes nothing.
 use mathlib.Core.Bool.{Bool, true, false}
-use Prim.Native.Nat.{ℕ, suc, _+_}
+use Prim.Native.Nat.{ℕ, suc}
 use Rattle.routes.specs.declared.lookup.Lookup.{Lookup}
 use Rattle.routes.specs.declared.lookup.Lookup.the-variants.{Epoch, Announce, Root, Node, Leave}
 use Rattle.routes.specs.declared.update.Phase.{Phase}

@@ -1,6 +1,5 @@
 -- A lookup as a machine: the ranges of its registers, what it asks, and what follows by the reply.
 -- Assumes nothing.
-use mathlib.Core.Path.{_≡_}
 use mathlib.Core.Bool.{cond, _||_}
 use Prim.Native.Nat.{ℕ, _+_, _^_, _<_, _≤_}
 use lib.Dec.{eqb}

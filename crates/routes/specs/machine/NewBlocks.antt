@@ -1,6 +1,6 @@
 -- The reply of a memory that was asked for a block, as a number.
 -- Assumes nothing.
-use Prim.Native.Nat.{ℕ, zero, suc}
+use Prim.Native.Nat.{ℕ, suc}
 use Rattle.std.specs.declared.option.Option.{Option}
 use Rattle.std.specs.declared.option.Option.the-variants.{Some, None}
 use Rattle.routes.specs.declared.pool.NewBlock.{NewBlock}

@@ -1,13 +1,10 @@
 -- Scan: what every processor has announced.
 -- Assumes nothing.
-use mathlib.Core.Path.{_≡_}
-use mathlib.Core.Bool.{Bool, true, false, cond, _&&_, not}
-use mathlib.Core.List.{List}
-use Prim.Native.Nat.{ℕ, _+_, _-_, _^_, _<_, _≤_}
-use lib.Dec.{eqb, ltb, leb}
+use mathlib.Core.Bool.{Bool, cond, _&&_, not}
+use Prim.Native.Nat.{ℕ, _+_, _-_, _^_, _<_}
+use lib.Dec.{eqb, ltb}
 use Rattle.routes.specs.declared.act.Act.{Act}
 use Rattle.routes.specs.declared.act.Act.the-variants.{Load}
-use Rattle.routes.specs.declared.update.job.Job.{Job}
 use Rattle.routes.specs.declared.update.scan.Scan.{Scan}
 use Rattle.routes.specs.declared.update.scan.Scan.the-variants.{ForNode, ForLimit}
 use Rattle.routes.specs.declared.update.scan.GracePeriod.{GracePeriod}

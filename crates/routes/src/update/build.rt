@@ -1,8 +1,8 @@
 // Build: a copy of the nodes on the way to each piece, in fresh blocks, piece by piece on a working root.
 ghost use mathlib.Core.Path.{_≡_};
-ghost use Prim.Native.Nat.{ℕ, _+_, _^_, _<_, _≤_};
+ghost use Prim.Native.Nat.{_+_, _<_, _≤_};
 ghost use lib.ListN.{length};
-ghost use Rattle.routes.specs.declared.update.build.Build.the-variants.{Root as AtRoot, Read as AtRead, Edit as AtEdit, Write as AtWrite};
+ghost use Rattle.routes.specs.declared.update.build.Build.the-variants.{Read as AtRead, Edit as AtEdit, Write as AtWrite};
 ghost use Rattle.routes.specs.machine.Builds.{BuildOk, BuildReady, BuildMoved, buildAfter, buildWords, starting as startingOf, afterRead, afterEdit, afterWrite};
 use super::Phase;
 use super::UpdateNext;

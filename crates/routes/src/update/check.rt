@@ -1,10 +1,9 @@
 // Check: is each piece clean, and is what it takes out there?
 ghost use mathlib.Core.Path.{_≡_};
-ghost use mathlib.Core.Bool.{true};
-ghost use Prim.Native.Nat.{ℕ, _+_, _*_, _/_, _<_, _≤_};
+ghost use Prim.Native.Nat.{_<_, _≤_};
 ghost use lib.ListN.{length};
-ghost use Rattle.routes.specs.declared.update.check.Check.the-variants.{Piece as AtPiece', Root as AtRoot, Slot as AtSlot, Route as AtRoute};
-ghost use Rattle.routes.specs.machine.Checks.{AtPiece, CleanIn, CheckReady, CheckMoved, pieceIn, passed as passedOf, lookedAt, descent, entered, foundRoute, decided as decidedOf};
+ghost use Rattle.routes.specs.declared.update.check.Check.the-variants.{Root as AtRoot, Slot as AtSlot, Route as AtRoute};
+ghost use Rattle.routes.specs.machine.Checks.{AtPiece, CleanIn, CheckReady, CheckMoved, pieceIn, passed as passedOf, lookedAt, entered, foundRoute, decided as decidedOf};
 use super::Phase;
 use super::UpdateNext;
 use super::job::Job;

@@ -1,6 +1,5 @@
 // Finish: fresh blocks that were not used go back, and the lock is given up in the turn in which the update is told.
 ghost use mathlib.Core.Path.{_≡_};
-ghost use Prim.Native.Nat.{ℕ, _+_, _<_};
 ghost use Rattle.routes.specs.machine.Finishes.{FinishReady, FinishMoved, finishing as finishingOf};
 use super::Phase;
 use super::UpdateNext;

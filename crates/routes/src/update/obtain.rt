@@ -1,6 +1,5 @@
 // Obtain: all blocks that the update may need, before it builds anything, so that nothing can fail later.
 ghost use mathlib.Core.Path.{_≡_};
-ghost use Prim.Native.Nat.{ℕ, _+_, _<_, _≤_};
 ghost use Rattle.routes.specs.declared.update.obtain.Obtain.the-variants.{Get as AtGet, Undo as AtUndo};
 ghost use Rattle.routes.specs.machine.Obtains.{ObtainReady, ObtainMoved, gathering as gatheringOf, undoing as undoingOf};
 use super::Phase;

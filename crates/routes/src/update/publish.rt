@@ -1,6 +1,5 @@
 // Publish: the new tree takes the place of the old one.
 ghost use mathlib.Core.Path.{_≡_};
-ghost use Prim.Native.Nat.{ℕ};
 ghost use Rattle.routes.specs.machine.Acts.{MayDo};
 ghost use Rattle.routes.specs.machine.Publishes.{PublishMoved, publishAct};
 use super::Phase;

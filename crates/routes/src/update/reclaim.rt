@@ -1,6 +1,5 @@
 // Reclaim: retired nodes that nobody can be reading go back to the pool, the oldest first.
 ghost use mathlib.Core.Path.{_≡_};
-ghost use Prim.Native.Nat.{ℕ, _<_, _≤_};
 ghost use Rattle.routes.specs.declared.act.Act.the-variants.{Release};
 ghost use Rattle.routes.specs.machine.Acts.{MayDo, Did};
 ghost use Rattle.routes.specs.machine.Reclaims.{ReclaimMoved, reclaimAct, released as releasedOf, unlinked as unlinkedOf};

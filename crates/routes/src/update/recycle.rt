@@ -1,9 +1,9 @@
 // Recycle: where the pool has no block left, the oldest retired node becomes a fresh block, once nobody can be reading it.
 ghost use mathlib.Core.Path.{_≡_};
-ghost use Prim.Native.Nat.{ℕ, _+_, _<_, _≤_};
+ghost use Prim.Native.Nat.{_<_};
 ghost use lib.ListN.{length, set};
 ghost use Rattle.own.specs.Layout.{freshAt};
-ghost use Rattle.routes.specs.declared.update.recycle.Recycle.the-variants.{Head as AtHead, RetiredAt as AtRetiredAt, SetHead as AtSetHead};
+ghost use Rattle.routes.specs.declared.update.recycle.Recycle.the-variants.{SetHead as AtSetHead};
 ghost use Rattle.routes.specs.machine.Recycles.{RecycleReady, RecycleMoved, oldest as oldestOf, unlinked as unlinkedOf};
 use super::Phase;
 use super::UpdateNext;

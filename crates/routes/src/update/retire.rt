@@ -1,6 +1,6 @@
 // Retire: the epoch is raised, and the nodes that were replaced go behind the tail of limbo, each with the epoch in which it was retired.
 ghost use mathlib.Core.Path.{_≡_};
-ghost use Prim.Native.Nat.{ℕ, _+_, _<_, _≤_};
+ghost use Prim.Native.Nat.{_<_};
 ghost use lib.ListN.{length};
 ghost use Rattle.routes.specs.declared.update.retire.Retire.the-variants.{SetNext as AtSetNext};
 ghost use Rattle.routes.specs.machine.Retires.{RetireReady, RetireMoved, followerIn, afterEpoch, afterNext, afterTail};

@@ -1,6 +1,6 @@
 // One look at what every processor has announced.
 ghost use mathlib.Core.Path.{_≡_};
-ghost use Prim.Native.Nat.{ℕ, _+_, _^_, _<_};
+ghost use Prim.Native.Nat.{_+_, _^_, _<_};
 ghost use lib.Dec.{ltb};
 ghost use Rattle.routes.specs.machine.Acts.{MayDo};
 ghost use Rattle.routes.specs.machine.Scans.{ScanOk, ScanMoved, scanAct, announcedBefore, passedFor, passedWith};

@@ -6,3 +6,4 @@ pub mod Keywords
 pub mod Reading
 pub mod Pieces
 pub mod Lines
+pub mod Shown

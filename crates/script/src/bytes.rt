@@ -1,7 +1,8 @@
 // Kinds of bytes, and how many of a kind stand in front of a text.
 ghost use mathlib.Core.Path.{_≡_};
-ghost use Prim.Native.Nat.{_≤_};
-ghost use lib.ListN.{length};
+ghost use mathlib.Core.Bool.{true, false};
+ghost use Prim.Native.Nat.{ℕ, _≤_, _<_};
+ghost use lib.ListN.{length, getD};
 ghost use Rattle.std.specs.Text.{digitValue};
 ghost use Rattle.script.specs.Bytes.{blank, isOf, frontOf, allOf};
 
@@ -52,6 +53,8 @@ impl Kind {
 pub fn front_len(text: &[u8], kind: Kind) -> usize
     ensures value { λ r. ⌜ r ≡ frontOf kind (now (text .entry)) ⌝ }
     ensures bound { λ r. ⌜ r ≤ length (now (text .entry)) ⌝ }
+    ensures all { λ r. ⌜ ((k : ℕ) → k < r → isOf kind (getD (now (text .entry)) k 0) ≡ true) ⌝ }
+    ensures stops { λ r. ⌜ (r < length (now (text .entry)) → isOf kind (getD (now (text .entry)) r 0) ≡ false) ⌝ }
 {
     let mut n = 0;
     while n < text.len() && kind.has(text[n]) {

@@ -7,6 +7,7 @@ mod line;
 mod numbers;
 mod pieces;
 mod reading;
+mod shown;
 mod words;
 
 pub use command::Command;
@@ -15,3 +16,4 @@ pub use expected::Expected;
 pub use expected::ExpectedDisplay;
 pub use line::line_end;
 pub use line::read_line;
+pub use shown::reads_back;

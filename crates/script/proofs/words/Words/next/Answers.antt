@@ -1,7 +1,5 @@
 use mathlib.Core.Path.{_≡_, ap, _∙_}
 use lib.ListN.{take, drop}
-use Rattle.script.specs.declared.bytes.Kind.the-variants.{Blank}
-use Rattle.script.specs.Bytes.{frontOf}
 use Rattle.script.specs.Words.{word, past, started, extent}
 use Rattle.script.proofs.words.Words.next.Needs as need
 

@@ -8,6 +8,12 @@ ghost use Rattle.routes.specs.Memory.{Mem, AtStart, MayTouch, MayRelease, Arri
 ghost use Rattle.routes.specs.Routes.{Event, Told, Turned, Explained};
 ghost use Rattle.routes.specs.Asked.{Next};
 ghost use Rattle.routes.specs.Promise.{FindsLongest, OneRoute, OnlyWhatFits, OldestFirst};
+mod prefix;
+mod refusal;
+
+pub use prefix::Prefix;
+pub use refusal::Refusal;
+pub use refusal::make_prefix;
 
 #[derive(Clone, Copy)]
 pub enum Ask { Find(u32), Change(u32) }

@@ -1,0 +1,5 @@
+pub mod RouteLists
+pub mod Kept
+pub mod Searched
+pub mod OnePiece
+pub mod AllPieces

@@ -1,0 +1,4 @@
+pub mod Entries
+pub mod Lookups
+pub mod Tables
+pub mod Changes

@@ -1,0 +1,5 @@
+pub mod Values
+pub mod Leading
+pub mod Parting
+pub mod Gathering
+pub mod back

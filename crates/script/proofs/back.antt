@@ -1,0 +1,5 @@
+pub mod Plain
+pub mod Numerals
+pub mod Sentences
+pub mod Pieces
+pub mod Commands

@@ -1,0 +1,4 @@
+pub mod Values
+pub mod Leading
+pub mod Parting
+pub mod Gathering

@@ -1,0 +1,85 @@
+// Plays scripts of a parcel hall: processors look routes up and change them, a turn at a time.
+mod draws;
+mod game;
+mod player;
+mod source;
+mod stop;
+
+use game::Game;
+use source::LINE_ROOM;
+use source::play_lines;
+use std::env::Env;
+use std::env::Unfilled;
+use std::fs::File;
+use std::io::Read;
+use std::rt::Files;
+use stop::Complaint;
+use stop::ComplaintDisplay;
+use stop::Stop;
+
+// A script went wrong, which has been said on standard error.
+#[derive(Clone, Copy)]
+struct Failed;
+
+// Plays a script from a fresh start, and says what went wrong.
+fn play<I: Read, R: Print + Eprint>(rt: &R, name: &str, input: &mut I, room: &mut [u8]) -> Result<(), Failed> {
+    let mut game = Game::new();
+    let played = match play_lines(rt, &mut game, input, room) {
+        Ok(()) => Ok(()),
+        Err(stop) => {
+            let line = game.line();
+            let _ = rt.eprintln(Complaint { name, line, stop });
+            if stop.is_error() { Err(Failed) } else { Ok(()) }
+        }
+    };
+    if played.is_ok() && game.end(rt).is_err() {
+        return Err(Failed);
+    }
+    played
+}
+
+fn play_file<R: Files + Print + Eprint>(rt: &R, name: &str, room: &mut [u8]) -> Result<(), Failed> {
+    match File::open(rt, name) {
+        Ok(mut file) => play(rt, name, &mut file, room),
+        Err(error) => {
+            let stop = Stop::Unreadable(error);
+            let _ = rt.eprintln(Complaint { name, line: 0, stop });
+            Err(Failed)
+        }
+    }
+}
+
+// Plays the script that an argument names, if there is such an argument.
+fn play_argument<R: Env + Files + Print + Eprint>(rt: &R, i: usize, room: &mut [u8]) -> Result<bool, Failed> {
+    let mut name = [0u8; 4096];
+    match rt.arg(i, &mut name) {
+        Ok(len) => match std::str::from_utf8(&name[..len]) {
+            Ok(text) => {
+                play_file(rt, text, room)?;
+                Ok(true)
+            }
+            Err(_) => {
+                let _ = eprintln!(rt, "argument {i}: expected a name in UTF-8");
+                Err(Failed)
+            }
+        },
+        Err(Unfilled::NotPresent) => Ok(false),
+        Err(Unfilled::TooLong) => {
+            let _ = eprintln!(rt, "argument {i}: expected a name of at most 4096 bytes");
+            Err(Failed)
+        }
+    }
+}
+
+fn main(rt: LibcRuntime) -> Result<(), Failed> {
+    let mut room = [0u8; LINE_ROOM];
+    for i in 1..usize::MAX {
+        if !play_argument(&rt, i, &mut room)? {
+            if i == 1 {
+                return play(&rt, "stdin", &mut rt.stdin(), &mut room);
+            }
+            break;
+        }
+    }
+    Ok(())
+}

@@ -1,8 +1,12 @@
 // A script that is being played.
+ghost use mathlib.Core.Path.{_≡_};
+ghost use Prim.Native.Nat.{_<_};
+ghost use Rattle.hall.specs.Commands.{Within};
 use super::draws::Draws;
 use super::player::CPUS;
 use super::player::Player;
 use super::stop::Stop;
+use super::stop::StopFromExpected;
 use routes::Answer;
 use routes::Ask;
 use routes::Piece;
@@ -41,12 +45,16 @@ fn tell<R: Print>(rt: &R, cpu: u8, answer: Answer) -> Result<(), Stop> {
 }
 
 impl Game {
-    pub fn new() -> Game {
+    pub fn new() -> Game
+        ensures { λ r. ⌜ r .«turns_left» ≡ 4000000 ⌝ ∗ ⌜ r .line ≡ 0 ⌝ }
+    {
         Game { player: Player::new(), turns_left: TURN_LIMIT, line: 0 }
     }
 
     // The number of the line that was played last, from 1.
-    pub fn line(&self) -> u64 {
+    pub fn line(&self) -> u64
+        ensures { λ r. ⌜ r ≡ now (self .entry) .line ⌝ }
+    {
         self.line
     }
 
@@ -59,25 +67,31 @@ impl Game {
     // Plays the next line, which comes without its newline.
     pub fn play_line<R: Print>(&mut self, rt: &R, text: &[u8]) -> Result<(), Stop> {
         self.line = self.line.saturating_add(1);
-        match read_line(text, CPUS) {
-            Ok(Line::Blank) => Ok(()),
-            Ok(Line::Command(command)) => self.play(rt, command),
-            Err(expected) => Err(Stop::Wrong(expected)),
+        let line = read_line(text, CPUS)?;
+        match line {
+            Line::Blank => Ok(()),
+            Line::Command(command) => self.play(rt, command),
         }
     }
 
-    fn play<R: Print>(&mut self, rt: &R, command: Command) -> Result<(), Stop> {
+    fn play<R: Print>(&mut self, rt: &R, command: Command) -> Result<(), Stop>
+        requires { ⌜ Within 4 command ⌝ }
+    {
         match command {
             Command::Begin { cpu, ask, pieces } => self.begin(rt, cpu, ask, pieces),
             Command::Go { cpu, turns } => self.go(rt, cpu, turns),
             Command::On { cpu } => self.go(rt, cpu, u32::MAX),
             Command::Any { seed, turns } => self.any(rt, seed, turns),
-            // no store to a plain table is late
-            Command::Arrive { .. } => Ok(()),
+            Command::Arrive { cpu, stores } => {
+                self.player.arrive(cpu, stores);
+                Ok(())
+            }
         }
     }
 
-    fn begin<R: Print>(&mut self, rt: &R, cpu: u8, ask: Ask, pieces: [Piece; 8]) -> Result<(), Stop> {
+    fn begin<R: Print>(&mut self, rt: &R, cpu: u8, ask: Ask, pieces: [Piece; 8]) -> Result<(), Stop>
+        requires { ⌜ cpu < 4 ⌝ }
+    {
         if self.player.begin(cpu, ask, pieces) {
             return Ok(());
         }
@@ -85,7 +99,9 @@ impl Game {
     }
 
     // A turn of a processor.
-    fn turn<R: Print>(&mut self, rt: &R, cpu: u8) -> Result<(), Stop> {
+    fn turn<R: Print>(&mut self, rt: &R, cpu: u8) -> Result<(), Stop>
+        requires { ⌜ cpu < 4 ⌝ }
+    {
         if self.turns_left == 0 {
             return Err(Stop::OutOfTurns);
         }
@@ -97,7 +113,9 @@ impl Game {
     }
 
     // Up to so many turns of a processor, while it has something under way.
-    fn go<R: Print>(&mut self, rt: &R, cpu: u8, turns: u32) -> Result<(), Stop> {
+    fn go<R: Print>(&mut self, rt: &R, cpu: u8, turns: u32) -> Result<(), Stop>
+        requires { ⌜ cpu < 4 ⌝ }
+    {
         for _ in 0..turns {
             if !self.player.is_busy(cpu) {
                 break;
@@ -111,23 +129,16 @@ impl Game {
     fn any<R: Print>(&mut self, rt: &R, seed: u64, turns: u32) -> Result<(), Stop> {
         let mut draws = Draws::new(seed);
         for _ in 0..turns {
-            let Some(cpu) = self.chosen(draws.next()) else {
+            let Some(cpu) = self.player.choose(draws.next()) else {
                 break;
             };
             self.turn(rt, cpu)?;
-            // the store that arrives; none is late
-            let _ = draws.next();
+            let number = draws.next();
+            if number / 4 % 2 == 1 {
+                self.player.arrive((number % 4) as u8, 1);
+            }
         }
         Ok(())
-    }
-
-    // Of m processors that have something under way, the one that a number chooses by its rest by m.
-    fn chosen(&self, number: u64) -> Option<u8> {
-        let count = self.player.busy_count();
-        if count == 0 {
-            return None;
-        }
-        self.player.nth_busy(number % count)
     }
 
     // The last line that is printed.

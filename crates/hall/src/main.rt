@@ -71,15 +71,20 @@ fn play_argument<R: Env + Files + Print + Eprint>(rt: &R, i: usize, room: &mut [
     }
 }
 
-fn main(rt: LibcRuntime) -> Result<(), Failed> {
-    let mut room = [0u8; LINE_ROOM];
-    for i in 1..usize::MAX {
-        if !play_argument(&rt, i, &mut room)? {
-            if i == 1 {
-                return play(&rt, "stdin", &mut rt.stdin(), &mut room);
-            }
+// Plays the scripts that the arguments behind the first one name.
+fn play_others<R: Env + Files + Print + Eprint>(rt: &R, room: &mut [u8]) -> Result<(), Failed> {
+    for i in 2..usize::MAX {
+        if !play_argument(rt, i, room)? {
             break;
         }
     }
     Ok(())
+}
+
+fn main(rt: LibcRuntime) -> Result<(), Failed> {
+    let mut room = [0u8; LINE_ROOM];
+    if play_argument(&rt, 1, &mut room)? {
+        return play_others(&rt, &mut room);
+    }
+    play(&rt, "stdin", &mut rt.stdin(), &mut room)
 }

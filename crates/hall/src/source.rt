@@ -1,4 +1,7 @@
 // The lines of a script, read in chunks.
+ghost use Prim.Native.Nat.{_≤_};
+ghost use lib.ListN.{length};
+ghost use Rattle.std.specs.Results.{Cases};
 use super::game::Game;
 use super::stop::Stop;
 use script::line_end;
@@ -10,7 +13,9 @@ pub const LINE_LIMIT: usize = 65536;
 pub const LINE_ROOM: usize = LINE_LIMIT + 1;
 
 // Plays the whole lines that a text begins with, and says how long they are.
-fn play_whole<R: Print>(rt: &R, game: &mut Game, text: &[u8]) -> Result<usize, Stop> {
+fn play_whole<R: Print>(rt: &R, game: &mut Game, text: &[u8]) -> Result<usize, Stop>
+    ensures { λ r. ⌜ Cases r (λ n. n ≤ length (now (text .entry))) (λ _. Unit {0}) ⌝ }
+{
     let mut done = 0;
     while let Some(len) = line_end(&text[done..]) {
         game.play_line(rt, &text[done..done + len])?;

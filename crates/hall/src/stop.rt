@@ -1,4 +1,7 @@
 // Why a script is not played to its end.
+ghost use mathlib.Core.Path.{_≡_};
+ghost use Rattle.hall.specs.Stops.{isError};
+ghost use Rattle.hall.specs.declared.stop.Stop.the-variants.{Wrong};
 use super::game::TURN_LIMIT;
 use super::source::LINE_LIMIT;
 use script::Expected;
@@ -18,8 +21,18 @@ pub enum Stop {
 }
 
 impl Stop {
-    pub fn is_error(self) -> bool {
+    pub fn is_error(self) -> bool
+        ensures { λ r. ⌜ r ≡ isError self ⌝ }
+    {
         !matches!(self, Stop::OutOfTurns)
+    }
+}
+
+pub impl From<Expected> for Stop as StopFromExpected {
+    ghost converts = { λ e r. r ≡ Wrong e };
+
+    fn from(expected: Expected) -> Stop {
+        Stop::Wrong(expected)
     }
 }
 

@@ -82,10 +82,8 @@ impl Game {
             Command::Go { cpu, turns } => self.go(rt, cpu, turns),
             Command::On { cpu } => self.go(rt, cpu, u32::MAX),
             Command::Any { seed, turns } => self.any(rt, seed, turns),
-            Command::Arrive { cpu, stores } => {
-                self.player.arrive(cpu, stores);
-                Ok(())
-            }
+            // no store to a plain table is ever late
+            Command::Arrive { .. } => Ok(()),
         }
     }
 
@@ -133,10 +131,8 @@ impl Game {
                 break;
             };
             self.turn(rt, cpu)?;
-            let number = draws.next();
-            if number / 4 % 2 == 1 {
-                self.player.arrive((number % 4) as u8, 1);
-            }
+            // the number that chooses a store which arrives: none is ever late
+            let _ = draws.next();
         }
         Ok(())
     }

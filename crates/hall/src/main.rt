@@ -1,4 +1,7 @@
 // Plays scripts of a parcel hall: processors look routes up and change them, a turn at a time.
+ghost use mathlib.Core.Path.{_≡_};
+ghost use Rattle.std.specs.Results.{isErr};
+ghost use Rattle.hall.specs.Stops.{isError};
 mod draws;
 mod game;
 mod player;
@@ -21,31 +24,30 @@ use stop::Stop;
 #[derive(Clone, Copy)]
 struct Failed;
 
-// Plays a script from a fresh start, and says what went wrong.
+// Says on standard error why a script stopped, and fails if that is an error.
+fn complain<R: Eprint>(rt: &R, name: &str, line: u64, stop: Stop) -> Result<(), Failed>
+    ensures { λ r. ⌜ isErr r ≡ isError stop ⌝ }
+{
+    let _ = rt.eprintln(Complaint { name, line, stop });
+    if stop.is_error() { Err(Failed) } else { Ok(()) }
+}
+
+// Plays a script from a fresh start.
 fn play<I: Read, R: Print + Eprint>(rt: &R, name: &str, input: &mut I, room: &mut [u8]) -> Result<(), Failed> {
     let mut game = Game::new();
-    let played = match play_lines(rt, &mut game, input, room) {
-        Ok(()) => Ok(()),
-        Err(stop) => {
-            let line = game.line();
-            let _ = rt.eprintln(Complaint { name, line, stop });
-            if stop.is_error() { Err(Failed) } else { Ok(()) }
-        }
-    };
-    if played.is_ok() && game.end(rt).is_err() {
-        return Err(Failed);
+    if let Err(stop) = play_lines(rt, &mut game, input, room) {
+        complain(rt, name, game.line(), stop)?;
     }
-    played
+    if let Err(stop) = game.end(rt) {
+        complain(rt, name, game.line(), stop)?;
+    }
+    Ok(())
 }
 
 fn play_file<R: Files + Print + Eprint>(rt: &R, name: &str, room: &mut [u8]) -> Result<(), Failed> {
     match File::open(rt, name) {
         Ok(mut file) => play(rt, name, &mut file, room),
-        Err(error) => {
-            let stop = Stop::Unreadable(error);
-            let _ = rt.eprintln(Complaint { name, line: 0, stop });
-            Err(Failed)
-        }
+        Err(error) => complain(rt, name, 0, Stop::Unreadable(error)),
     }
 }
 

@@ -15,6 +15,8 @@ use routes::Piece;
 use routes::Refusal;
 
 pub const CPUS: u8 = 4;
+// A plain table holds the header block alone.
+const HEADER_BLOCKS: u32 = 1;
 
 // What was asked of a processor. Of a change there are the first eight pieces.
 #[derive(Clone, Copy)]
@@ -106,17 +108,11 @@ impl Player {
         None
     }
 
-    // Stores of a processor arrive: none to a plain table is ever late.
-    pub fn arrive(&mut self, _cpu: u8, _stores: u32)
-        ensures { λ _. ⌜ now (self .exit) ≡ now (self .entry) ⌝ }
-    {
-    }
-
-    // How many blocks are held: the header block.
+    // How many blocks are held.
     pub fn held(&self) -> u32
         ensures { λ r. ⌜ r ≡ 1 ⌝ }
     {
-        1
+        HEADER_BLOCKS
     }
 }
 

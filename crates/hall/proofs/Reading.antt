@@ -51,24 +51,31 @@ cpu-fine n w f h = elim (cases-bool (allOf (Digit 10) w && ltb (value 10 w) n)) 
       inl e ↦ rw e (h (value 10 w) (ltb-true (value 10 w) n (and-parts (allOf (Digit 10) w) (ltb (value 10 w) n) e .1)))
     | inr e ↦ rw e tt ]
 
+-- so many turns are of a processor that there is
 go-fine : (n : ℕ) (t : List ℕ) → Fine n (goOf n t)
 go-fine n t = cpu-fine n (word t) _ (λ p h. then-fine n (countOf (word (past t))) _ (λ k. then-fine n (endOf expected.End (past (past t))) _ (λ _. h)))
 
+-- turns until something is told are
 on-fine : (n : ℕ) (t : List ℕ) → Fine n (onOf n t)
 on-fine n t = cpu-fine n (word t) _ (λ p h. then-fine n (endOf expected.End (past t)) _ (λ _. h))
 
+-- turns that a seed chooses name no processor
 any-fine : (n : ℕ) (t : List ℕ) → Fine n (anyOf t)
 any-fine n t = then-fine n (seedOf (word t)) _ (λ s. then-fine n (countOf (word (past t))) _ (λ k. then-fine n (endOf expected.End (past (past t))) _ (λ _. tt)))
 
+-- stores that arrive are of a processor that there is
 arrive-fine : (n : ℕ) (t : List ℕ) → Fine n (arriveOf n t)
 arrive-fine n t = cpu-fine n (word t) _ (λ p h. then-fine n (countOf (word (past t))) _ (λ k. then-fine n (endOf expected.End (past (past t))) _ (λ _. h)))
 
+-- a lookup begins on the processor that was read
 find-fine : (n p : ℕ) (t : List ℕ) → p < n → Fine n (findOf p t)
 find-fine n p t h = then-fine n (okOr (addressOf (word t)) expected.Address) _ (λ a. then-fine n (endOf expected.End (past t)) _ (λ _. h))
 
+-- an update begins on it
 change-fine : (n p : ℕ) (t : List ℕ) → p < n → Fine n (changesOf p t)
 change-fine n p t h = then-fine n (changeOf t) _ (λ c. h)
 
+-- whatever is asked begins on it
 ask-fine : (n p : ℕ) (t : List ℕ) (k : Option Keyword) → p < n → Fine n (askBy k p t)
 ask-fine n p t (Some Find) h = find-fine n p (past t) h
 ask-fine n p t (Some Put) h = change-fine n p t h
@@ -84,9 +91,11 @@ either-fine : (n : ℕ) (b : Bool) (r s : Result Command Expected) → Fine n r 
 either-fine n true r s h k = h
 either-fine n false r s h k = k
 
+-- what a processor's number begins is on a processor that there is
 begin-fine : (n : ℕ) (w t : List ℕ) → Fine n (beginOf n w t)
 begin-fine n w t = either-fine n (allOf (Digit 10) w) _ _ (cpu-fine n w (λ p. askBy (keywordOf (word t)) p t) (λ p h. ask-fine n p t (keywordOf (word t)) h)) tt
 
+-- so of every command, by its first word
 command-fine : (n : ℕ) (w t : List ℕ) (k : Option Keyword) → Fine n (commandBy k n w t)
 command-fine n w t (Some Go) = go-fine n t
 command-fine n w t (Some On) = on-fine n t
@@ -97,10 +106,12 @@ command-fine n w t (Some Put) = tt
 command-fine n w t (Some Take) = tt
 command-fine n w t None = begin-fine n w t
 
+-- a line is fine if its command is
 on-a-line : (n : ℕ) (r : Result Command Expected) → Fine n r → FineLine n (r >>= λ c. Ok (line.Command c))
 on-a-line n (Ok c) h = h
 on-a-line n (Err e) h = tt
 
+-- every line is, once its carriage return is gone
 from-fine : (n : ℕ) (t : List ℕ) → FineLine n (lineFrom n t)
 from-fine n t = elim (cases-bool (passed (word t))) [
       inl e ↦ rw e tt

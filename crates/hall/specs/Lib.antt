@@ -1,3 +1,4 @@
 pub mod Commands
+pub mod Games
 pub mod Players
 pub mod Stops

@@ -1,7 +1,10 @@
 // A script that is being played.
 ghost use mathlib.Core.Path.{_≡_};
 ghost use Prim.Native.Nat.{_<_};
+ghost use Rattle.std.specs.declared.result.Result.the-variants.{Err};
 ghost use Rattle.hall.specs.Commands.{Within};
+ghost use Rattle.hall.specs.Games.{nextLine, TurnSpent};
+ghost use Rattle.hall.specs.declared.stop.Stop.the-variants.{LongLine, OutOfTurns};
 use super::draws::Draws;
 use super::player::CPUS;
 use super::player::Player;
@@ -21,10 +24,13 @@ pub const TURN_LIMIT: u32 = 4_000_000;
 #[derive(Drop)]
 pub struct Game {
     player: Player,
-    turns_left: u32,
-    line: u64,
+    // turns that may still be taken
+    left: u32,
+    // the number of the line that was begun last, from 1
+    pub line: u64,
 }
 
+// A script stops where nothing can be printed.
 fn printed(result: io::Result<()>) -> Result<(), Stop> {
     match result {
         Ok(()) => Ok(()),
@@ -32,41 +38,48 @@ fn printed(result: io::Result<()>) -> Result<(), Stop> {
     }
 }
 
-fn tell<R: Print>(rt: &R, cpu: u8, answer: Answer) -> Result<(), Stop> {
+// Prints what a processor tells.
+fn tell<R: Print>(rt: &R, cpu: u8, told: Option<Answer>) -> Result<(), Stop> {
     printed(
-        match answer {
-            Answer::Found(len, tells) => println!(rt, "{cpu} {len} {tells}"),
-            Answer::Nothing => println!(rt, "{cpu} nothing"),
-            Answer::Done => println!(rt, "{cpu} done"),
-            Answer::Full => println!(rt, "{cpu} full"),
-            Answer::No(why) => println!(rt, "{cpu} no {why}"),
+        match told {
+            None => Ok(()),
+            Some(Answer::Found(len, tells)) => println!(rt, "{cpu} {len} {tells}"),
+            Some(Answer::Nothing) => println!(rt, "{cpu} nothing"),
+            Some(Answer::Done) => println!(rt, "{cpu} done"),
+            Some(Answer::Full) => println!(rt, "{cpu} full"),
+            Some(Answer::No(why)) => println!(rt, "{cpu} no {why}"),
         },
     )
 }
 
 impl Game {
     pub fn new() -> Game
-        ensures { λ r. ⌜ r .«turns_left» ≡ 4000000 ⌝ ∗ ⌜ r .line ≡ 0 ⌝ }
+        ensures { λ r. ⌜ r .left ≡ 4000000 ⌝ ∗ ⌜ r .line ≡ 0 ⌝ }
     {
-        Game { player: Player::new(), turns_left: TURN_LIMIT, line: 0 }
+        Game { player: Player::new(), left: TURN_LIMIT, line: 0 }
     }
 
-    // The number of the line that was played last, from 1.
-    pub fn line(&self) -> u64
-        ensures { λ r. ⌜ r ≡ now (self .entry) .line ⌝ }
+    // The next line begins.
+    fn next_line(&mut self)
+        ensures line { λ _. ⌜ now (self .exit) .line ≡ nextLine (now (self .entry)) ⌝ }
     {
-        self.line
+        self.line = self.line.saturating_add(1);
     }
 
     // The next line is too long.
-    pub fn refuse_line(&mut self) -> Stop {
-        self.line = self.line.saturating_add(1);
+    pub fn refuse_line(&mut self) -> Stop
+        ensures line { λ _. ⌜ now (self .exit) .line ≡ nextLine (now (self .entry)) ⌝ }
+        ensures value { λ r. ⌜ r ≡ LongLine ⌝ }
+    {
+        self.next_line();
         Stop::LongLine
     }
 
     // Plays the next line, which comes without its newline.
-    pub fn play_line<R: Print>(&mut self, rt: &R, text: &[u8]) -> Result<(), Stop> {
-        self.line = self.line.saturating_add(1);
+    pub fn play_line<R: Print>(&mut self, rt: &R, text: &[u8]) -> Result<(), Stop>
+        ensures line { λ _. ⌜ now (self .exit) .line ≡ nextLine (now (self .entry)) ⌝ }
+    {
+        self.next_line();
         let line = read_line(text, CPUS)?;
         match line {
             Line::Blank => Ok(()),
@@ -76,6 +89,7 @@ impl Game {
 
     fn play<R: Print>(&mut self, rt: &R, command: Command) -> Result<(), Stop>
         requires { ⌜ Within 4 command ⌝ }
+        ensures line { λ _. ⌜ now (self .exit) .line ≡ now (self .entry) .line ⌝ }
     {
         match command {
             Command::Begin { cpu, ask, pieces } => self.begin(rt, cpu, ask, pieces),
@@ -89,6 +103,7 @@ impl Game {
 
     fn begin<R: Print>(&mut self, rt: &R, cpu: u8, ask: Ask, pieces: [Piece; 8]) -> Result<(), Stop>
         requires { ⌜ cpu < 4 ⌝ }
+        ensures line { λ _. ⌜ now (self .exit) .line ≡ now (self .entry) .line ⌝ }
     {
         if self.player.begin(cpu, ask, pieces) {
             return Ok(());
@@ -96,23 +111,25 @@ impl Game {
         printed(println!(rt, "{cpu} busy"))
     }
 
-    // A turn of a processor.
+    // A turn of a processor, if one is left.
     fn turn<R: Print>(&mut self, rt: &R, cpu: u8) -> Result<(), Stop>
         requires { ⌜ cpu < 4 ⌝ }
+        ensures over { λ r. ⌜ (now (self .entry) .left ≡ 0 → (r ≡ Err OutOfTurns) × (now (self .exit) ≡ now (self .entry))) ⌝ }
+        ensures spent { λ _. ⌜ (0 < now (self .entry) .left → TurnSpent cpu (now (self .entry)) (now (self .exit))) ⌝ }
+        ensures line { λ _. ⌜ now (self .exit) .line ≡ now (self .entry) .line ⌝ }
     {
-        if self.turns_left == 0 {
+        if self.left == 0 {
             return Err(Stop::OutOfTurns);
         }
-        self.turns_left -= 1;
-        match self.player.turn(cpu) {
-            Some(answer) => tell(rt, cpu, answer),
-            None => Ok(()),
-        }
+        self.left -= 1;
+        let told = self.player.turn(cpu);
+        tell(rt, cpu, told)
     }
 
     // Up to so many turns of a processor, while it has something under way.
     fn go<R: Print>(&mut self, rt: &R, cpu: u8, turns: u32) -> Result<(), Stop>
         requires { ⌜ cpu < 4 ⌝ }
+        ensures line { λ _. ⌜ now (self .exit) .line ≡ now (self .entry) .line ⌝ }
     {
         for _ in 0..turns {
             if !self.player.is_busy(cpu) {
@@ -124,7 +141,9 @@ impl Game {
     }
 
     // So many turns, each of a processor that the seed chooses of those that have something under way.
-    fn any<R: Print>(&mut self, rt: &R, seed: u64, turns: u32) -> Result<(), Stop> {
+    fn any<R: Print>(&mut self, rt: &R, seed: u64, turns: u32) -> Result<(), Stop>
+        ensures line { λ _. ⌜ now (self .exit) .line ≡ now (self .entry) .line ⌝ }
+    {
         let mut draws = Draws::new(seed);
         for _ in 0..turns {
             let Some(cpu) = self.player.choose(draws.next()) else {

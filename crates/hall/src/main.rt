@@ -36,10 +36,10 @@ fn complain<R: Eprint>(rt: &R, name: &str, line: u64, stop: Stop) -> Result<(), 
 fn play<I: Read, R: Print + Eprint>(rt: &R, name: &str, input: &mut I, room: &mut [u8]) -> Result<(), Failed> {
     let mut game = Game::new();
     if let Err(stop) = play_lines(rt, &mut game, input, room) {
-        complain(rt, name, game.line(), stop)?;
+        complain(rt, name, game.line, stop)?;
     }
     if let Err(stop) = game.end(rt) {
-        complain(rt, name, game.line(), stop)?;
+        complain(rt, name, game.line, stop)?;
     }
     Ok(())
 }

@@ -2,12 +2,15 @@ pub mod Aging
 pub mod Alike
 pub mod Apart
 pub mod Arriving
+pub mod Begins
 pub mod Calm
 pub mod Holding
 pub mod Local
+pub mod LockWaits
 pub mod Lookups
 pub mod Moment
 pub mod Rely
 pub mod Ripening
+pub mod Starts
 pub mod Steps
 pub mod Storing

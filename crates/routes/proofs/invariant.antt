@@ -7,8 +7,10 @@ pub mod Calm
 pub mod Holding
 pub mod Local
 pub mod LockWaits
+pub mod LookupReady
 pub mod Lookups
 pub mod Moment
+pub mod Refuses
 pub mod Rely
 pub mod Ripening
 pub mod Starts

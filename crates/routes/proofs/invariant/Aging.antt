@@ -30,7 +30,7 @@ use Rattle.routes.specs.Routes.{Route, Now}
 use Rattle.routes.specs.tree.Trees.{Tree}
 use Rattle.routes.specs.invariant.Ghosts.{Ghost, Row}
 use Rattle.routes.specs.invariant.Checking.{Checked, CheckFacts}
-use Rattle.routes.specs.invariant.Gathering.{Gathered, Gathers, Undoes, Stands, ObtainFacts, RecycleFacts}
+use Rattle.routes.specs.invariant.Gathering.{Gathered, Gathers, Undoes, ObtainFacts, RecycleFacts}
 use Rattle.routes.specs.invariant.Building.{Equipped, Staged, Writes, BuildFacts, Published, Ripens, Landed, PublishFacts}
 use Rattle.routes.specs.invariant.Retiring.{Retires, Joins, Stamps, Reclaims, RetireFacts, ReclaimFacts, FinishFacts}
 use Rattle.routes.specs.invariant.Writers.{Hall, ScanFacts, PhaseFacts}

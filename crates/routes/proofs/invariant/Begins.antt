@@ -1,7 +1,7 @@
 -- A lookup or an update begins.
 use mathlib.Core.Path.{_≡_, refl, sym, ap, subst, _∙_}
-use mathlib.Core.Bool.{true, false, cond, _||_}
-use mathlib.Core.List.{List, [], _∷_, _++_}
+use mathlib.Core.Bool.{true, false, _||_}
+use mathlib.Core.List.{List, [], _∷_}
 use mathlib.Core.Logic.{inl, inr}
 use Prim.Native.Nat.{ℕ, zero, suc, _+_, _<_, _≤_}
 use native.Mathlib.Omega.{arith}
@@ -26,12 +26,12 @@ use Rattle.routes.specs.Asked.{piecesOf}
 use Rattle.routes.specs.Memory.{Mem, setAt}
 use Rattle.routes.specs.Routes.{Event, Asked, Now, Quiet, Under, Over, State, Run, asks, busy, under}
 use Rattle.routes.specs.counts.Counts.{cnt}
-use Rattle.routes.specs.machine.Begins.{blank, stored, noted, startJob, beginUpdate, beginWork, beginWords, PieceFits, PiecesFit, AskFits}
+use Rattle.routes.specs.machine.Begins.{blank, stored, noted, beginUpdate, beginWork, beginWords, PieceFits, PiecesFit, AskFits}
 use Rattle.routes.specs.machine.Checks.{pieceIn}
 use Rattle.routes.specs.run.Nows.{isChange}
 use Rattle.routes.specs.run.Steps.{askedAt}
 use Rattle.routes.specs.invariant.Ghosts.{Ghost}
-use Rattle.routes.specs.invariant.Readers.{Pending, LooksUp, Updates, Does, Reader}
+use Rattle.routes.specs.invariant.Readers.{Pending, LooksUp, Updates, Does}
 use Rattle.routes.specs.invariant.Registers.{holds, holdsIn, loaded, loadedIn, announced, announcedIn}
 use Rattle.routes.specs.invariant.Inv.{Lock, Cpus, Inv}
 use Rattle.routes.proofs.run.Always.{under-is}

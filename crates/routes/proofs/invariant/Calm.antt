@@ -1,7 +1,7 @@
 -- A late store arrives that no lookup looks at.
 use mathlib.Core.Path.{_≡_, refl, sym, ap, _∙_}
 use mathlib.Core.Bool.{Bool, true, false}
-use mathlib.Core.List.{List, [], _∷_}
+use mathlib.Core.List.{List, _∷_}
 use mathlib.Core.Logic.{_⊎_, inl, inr}
 use Prim.Native.Nat.{ℕ, _+_, _<_, _≤_}
 use native.Mathlib.Omega.{arith}
@@ -15,7 +15,7 @@ use Rattle.routes.specs.late.Steps.{landed}
 use Rattle.routes.specs.late.View.{view}
 use Rattle.routes.specs.tree.Trees.{count}
 use Rattle.routes.specs.invariant.Ghosts.{Ghost, Row, still, heads, calm, ripe, limbo}
-use Rattle.routes.specs.invariant.Memories.{HeadStore, CalmStore, RowOk, Sight, Core}
+use Rattle.routes.specs.invariant.Memories.{HeadStore, CalmStore, RowOk, Core}
 use Rattle.routes.specs.invariant.Inv.{Lock, Cpus, Inv}
 use Rattle.routes.proofs.basics.Places.{setVal-miss}
 use Rattle.routes.proofs.late.Only.{row-landed, only-landed}

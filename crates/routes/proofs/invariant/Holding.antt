@@ -20,7 +20,7 @@ use Rattle.routes.specs.late.View.{view}
 use Rattle.routes.specs.run.Nows.{isChange}
 use Rattle.routes.specs.run.Steps.{turnedAt}
 use Rattle.routes.specs.invariant.Ghosts.{Ghost, Row, still, heads, calm, ripe, limbo}
-use Rattle.routes.specs.invariant.Memories.{RowOk, Ripe, Core}
+use Rattle.routes.specs.invariant.Memories.{RowOk, Core}
 use Rattle.routes.specs.invariant.Readers.{Updates, Does}
 use Rattle.routes.specs.invariant.Registers.{holds, holdsIn, announced, loaded, passed, passedIn}
 use Rattle.routes.specs.invariant.Writers.{PhaseFacts, Writer, hallOf}

@@ -1,6 +1,6 @@
 -- A step of a processor that has not the lock: it writes at most its own announcement.
 use mathlib.Core.Path.{_≡_, refl, sym, ap, subst, _∙_}
-use mathlib.Core.Bool.{Bool, true, false}
+use mathlib.Core.Bool.{Bool, false}
 use mathlib.Core.List.{List, []}
 use mathlib.Core.Logic.{_⊎_, inl, inr}
 use Prim.Native.Nat.{ℕ, _+_, _<_, _≤_}
@@ -13,22 +13,22 @@ use Rattle.routes.specs.declared.update.Phase.{Phase}
 use Rattle.routes.specs.declared.update.Phase.the-variants.{Refuse, Lock as AtLock, Check, Obtain, Recycle, Scan, Build, Publish, Retire, Reclaim, Finish}
 use Rattle.routes.specs.declared.work.Work.{Work}
 use Rattle.routes.specs.declared.work.Work.the-variants.{Idle, Lookup as Looking, Update as Updating}
-use Rattle.routes.specs.Memory.{Mem, setAt, sees}
+use Rattle.routes.specs.Memory.{Mem, setAt}
 use Rattle.routes.specs.Routes.{Route, Now, State}
 use Rattle.routes.specs.counts.Counts.{cnt}
-use Rattle.routes.specs.late.View.{masked, view}
+use Rattle.routes.specs.late.View.{view}
 use Rattle.routes.specs.tree.Trees.{count}
 use Rattle.routes.specs.invariant.Ghosts.{Ghost, Row, still, heads, calm, ripe, limbo}
 use Rattle.routes.specs.invariant.Holders.{Resting}
-use Rattle.routes.specs.invariant.Memories.{Ripe, RowOk, Sight, Core}
+use Rattle.routes.specs.invariant.Memories.{RowOk, Core}
 use Rattle.routes.specs.invariant.Readers.{Reader}
 use Rattle.routes.specs.invariant.Registers.{holds, holdsIn, passed, passedIn, nobody}
 use Rattle.routes.specs.invariant.Writers.{Hall, hallOf, PhaseFacts, Writer}
 use Rattle.routes.specs.invariant.Inv.{Lock, Cpus, Inv}
-use Rattle.routes.proofs.basics.Places.{setAt-hit, setAt-miss}
+use Rattle.routes.proofs.basics.Places.{setAt-hit}
 use Rattle.routes.proofs.late.View.{view-same}
 use Rattle.routes.proofs.repr.Nodes.{repr-stays}
-use Rattle.routes.proofs.invariant.Apart.{once, solid}
+use Rattle.routes.proofs.invariant.Apart.{solid}
 use Rattle.routes.proofs.invariant.Rely.{Leaves, reader-stays}
 use Rattle.routes.proofs.invariant.Steps.{setCpu}
 

@@ -1,9 +1,9 @@
 -- The five steps of a lookup.
 use mathlib.Core.Path.{_≡_, refl, sym, ap, subst, _∙_}
-use mathlib.Core.Bool.{true, false, cond, _||_}
+use mathlib.Core.Bool.{false, _||_}
 use mathlib.Core.List.{List, [], _∷_}
 use mathlib.Core.Logic.{_⊎_, inl, inr}
-use Prim.Native.Nat.{ℕ, suc, _+_, _^_, _<_, _≤_}
+use Prim.Native.Nat.{ℕ, suc, _+_, _<_, _≤_}
 use native.Mathlib.Omega.{arith}
 use lib.Dec.{eqb, T}
 use Rattle.std.specs.declared.option.Option.{Option}
@@ -20,15 +20,15 @@ use Rattle.routes.specs.declared.Ask.the-variants.{Find}
 use Rattle.routes.specs.declared.lookup.Lookup.{Lookup}
 use Rattle.routes.specs.declared.lookup.Lookup.the-variants.{Epoch, Announce, Root, Node, Leave}
 use Rattle.routes.specs.declared.work.Work.the-variants.{Idle, Lookup as Looking}
-use Rattle.routes.specs.Memory.{Mem, setAt, sees, swapped, counted}
-use Rattle.routes.specs.Routes.{Event, Told, Turned, Now, Under, Over, State, Run, young, limit, find}
+use Rattle.routes.specs.Memory.{Mem, sees, swapped, counted}
+use Rattle.routes.specs.Routes.{Event, Told, Turned, Over, State, Run, young, limit, find}
 use Rattle.routes.specs.counts.Counts.{cnt}
 use Rattle.routes.specs.machine.Acts.{Did}
 use Rattle.routes.specs.machine.Cpus.{workOfLookup, toldOfLookup}
 use Rattle.routes.specs.machine.Lookups.{better as betterFit, afterRoot, afterSlot, lookupAct, lookupAfter}
 use Rattle.routes.specs.late.Steps.{setWord}
 use Rattle.routes.specs.repr.Repr.{Follow}
-use Rattle.routes.specs.run.Steps.{settledAt, turnedAt, toldAt}
+use Rattle.routes.specs.run.Steps.{settledAt, turnedAt}
 use Rattle.routes.specs.tree.Trees.{blockOf, count}
 use Rattle.routes.specs.tree.Walks.{better, walk}
 use Rattle.routes.specs.invariant.Ghosts.{Ghost, limbo}

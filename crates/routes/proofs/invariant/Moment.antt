@@ -14,7 +14,7 @@ use Rattle.routes.specs.declared.update.publish.Publish.the-variants.{FenceRoo
 use Rattle.routes.specs.declared.work.Work.{Work}
 use Rattle.routes.specs.declared.work.Work.the-variants.{Update as Updating}
 use Rattle.routes.specs.Memory.{Mem}
-use Rattle.routes.specs.Routes.{Route, Event, Now, Over, State, Run}
+use Rattle.routes.specs.Routes.{Route, Event, Over, State, Run}
 use Rattle.routes.specs.counts.Counts.{cnt}
 use Rattle.routes.specs.late.Rows.{storeOf}
 use Rattle.routes.specs.late.Steps.{landed}
@@ -31,7 +31,7 @@ use Rattle.routes.specs.invariant.Registers.{passed, passedIn}
 use Rattle.routes.specs.invariant.Writers.{PhaseFacts, Writer, hallOf}
 use Rattle.routes.specs.invariant.Inv.{Lock, Cpus, Inv}
 use Rattle.routes.proofs.basics.Places.{setVal-hit, setVal-miss}
-use Rattle.routes.proofs.late.Only.{row-landed, only-landed, only-none}
+use Rattle.routes.proofs.late.Only.{row-landed, only-landed}
 use Rattle.routes.proofs.late.View.{view-landed}
 use Rattle.routes.proofs.repr.Nodes.{repr-stays}
 use Rattle.routes.proofs.run.Make.{settle-done}

@@ -1,12 +1,12 @@
 -- As it starts: no tree, nothing retired, all idle. And what a new turn may ask changes nothing.
-use mathlib.Core.Path.{_≡_, refl, sym, ap, _∙_}
-use mathlib.Core.Bool.{true, false, _||_}
+use mathlib.Core.Path.{_≡_, refl, sym, _∙_}
+use mathlib.Core.Bool.{false}
 use mathlib.Core.List.{List, []}
 use mathlib.Core.Logic.{inl, inr}
-use Prim.Native.Nat.{ℕ, _+_, _<_, _≤_}
+use Prim.Native.Nat.{ℕ, _+_, _<_}
 use native.Mathlib.Omega.{arith}
 use lib.ListN.{length}
-use Rattle.std.proofs.shelf.Ways.{tells as tests, eqb-tells}
+use Rattle.std.proofs.shelf.Ways.{eqb-tells}
 use Rattle.std.proofs.shelf.Tests.{true≢false}
 use Rattle.routes.specs.declared.work.Work.the-variants.{Idle}
 use Rattle.routes.specs.Memory.{Mem, AtStart, allowed}

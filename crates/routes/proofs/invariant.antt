@@ -4,6 +4,7 @@ pub mod Apart
 pub mod Arriving
 pub mod Begins
 pub mod Calm
+pub mod Explains
 pub mod Holding
 pub mod Local
 pub mod LockWaits

@@ -1,1 +1,3 @@
+pub mod Apart
+pub mod Rely
 pub mod Passing

@@ -1,3 +1,4 @@
 pub mod Apart
 pub mod Rely
 pub mod Passing
+pub mod CheckNext

@@ -2,3 +2,4 @@ pub mod Apart
 pub mod Rely
 pub mod Passing
 pub mod CheckNext
+pub mod CheckReady

@@ -1,5 +1,7 @@
 pub mod Apart
 pub mod Rely
 pub mod Passing
-pub mod CheckNext
+pub mod Kinds
 pub mod CheckReady
+pub mod CheckNext
+pub mod WriterWord

@@ -46,11 +46,8 @@ use Rattle.routes.proofs.table.Sound.{clean-parts}
 use Rattle.routes.proofs.table.Takes.{changed-is}
 use Rattle.routes.proofs.build.Checks.{check-has, check-none}
 use Rattle.routes.proofs.repr.Nodes.{slot-down, repr-block}
+use Rattle.routes.proofs.invariant.Kinds.{withRow}
 use Rattle.routes.proofs.invariant.Passing.{take-all, stops, goes, wants-next, unclean, puts-pass, takes-by}
-
--- ghosts with another kind of late row
-abbrev pub withRow : Row → Ghost → Ghost
-withRow kind g = record { tree = g .tree; chain = g .chain; loose = g .loose; fresh = g .fresh; stamps = g .stamps; torn = g .torn; row = kind }
 
 -- the change is turned away, by number
 pub record Refused (g : Ghost) (rs : List Route) (n : Now) (why : ℕ) : Type 0 where

@@ -1,7 +1,12 @@
+pub mod Aging
+pub mod Alike
 pub mod Apart
+pub mod Holding
 pub mod Rely
 pub mod Passing
 pub mod Kinds
 pub mod CheckReady
 pub mod CheckNext
 pub mod WriterWord
+pub mod Steps
+pub mod Storing

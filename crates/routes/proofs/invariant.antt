@@ -10,3 +10,5 @@ pub mod CheckNext
 pub mod WriterWord
 pub mod Steps
 pub mod Storing
+pub mod Locks
+pub mod Unlocks

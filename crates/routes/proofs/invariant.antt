@@ -12,3 +12,4 @@ pub mod Steps
 pub mod Storing
 pub mod Locks
 pub mod Unlocks
+pub mod CheckTurns

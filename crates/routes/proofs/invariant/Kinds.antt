@@ -41,5 +41,5 @@ unfolding RowOk
 still-none m h g epoch e r = row-is still m h g epoch e r
 
 -- No reader asks for the kind.
-pub leaves-row : (m : Mem) (g : Ghost) (kind : Row) (trail : List ℕ) (q : ℕ) → Leaves m g m (withRow kind g) trail q
-leaves-row m g kind trail q = record { epochs = omega arith; active = refl; words = λ b w i l. refl; safe = λ b i j. j; clear = λ b i j. inl (j, refl) }
+pub leaves-row : {m m' : Mem} (g : Ghost) (kind : Row) (trail : List ℕ) (q : ℕ) → m' .val ≡ m .val → Leaves m g m' (withRow kind g) trail q
+leaves-row g kind trail q same = record { epochs = rw same (omega arith); active = rw same; words = λ b w i l. rw same; safe = λ b i j. j; clear = λ b i j. inl (j, refl) }

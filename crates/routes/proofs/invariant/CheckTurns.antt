@@ -1,0 +1,157 @@
+-- The turns of Check: a piece, ROOT, a slot or a route word is looked at.
+use mathlib.Core.Path.{_≡_, refl, sym, ap, subst, _∙_}
+use mathlib.Core.Bool.{Bool, true, false}
+use mathlib.Core.List.{List, [], _∷_}
+use Prim.Native.Nat.{ℕ, _+_, _<_, _≤_}
+use native.Mathlib.Omega.{arith}
+use lib.Dec.{T}
+use lib.ListN.{length}
+use Rattle.std.proofs.shelf.Tests.{true≢false}
+use Rattle.routes.specs.declared.Answer.the-variants.{No}
+use Rattle.routes.specs.declared.Ask.{Ask}
+use Rattle.routes.specs.declared.Ask.the-variants.{Change}
+use Rattle.routes.specs.declared.Answer.{Answer}
+use Rattle.routes.specs.declared.Piece.{Piece}
+use Rattle.routes.specs.declared.refusal.Refusal.{Refusal}
+use Rattle.routes.specs.declared.update.job.Job.{Job}
+use Rattle.routes.specs.declared.update.check.Check.{Check}
+use Rattle.routes.specs.declared.update.check.Check.the-variants.{Piece as AtPiece, Root, Slot, Route as AtRoute, Reject}
+use Rattle.routes.specs.declared.update.obtain.Obtain.the-variants.{Get}
+use Rattle.routes.specs.declared.update.Phase.the-variants.{Check as InCheck, Obtain as InObtain}
+use Rattle.routes.specs.declared.update.UpdateNext.{UpdateNext}
+use Rattle.routes.specs.declared.work.Work.the-variants.{Update as Updating}
+use Rattle.routes.specs.Memory.{Mem, sees, counted, Arrives, rest}
+use Rattle.routes.specs.Refusals.{numberOf}
+use Rattle.routes.specs.Routes.{Route, Event, Turned, Now, Under, Over, State, Run, young, limit}
+use Rattle.routes.specs.late.View.{view}
+use Rattle.routes.specs.run.Steps.{settledAt}
+use Rattle.routes.specs.machine.Acts.{Did}
+use Rattle.routes.specs.machine.Checks.{checkAct, checkAfter, pieceIn}
+use Rattle.routes.specs.machine.Cpus.{workOfUpdate}
+use Rattle.routes.specs.invariant.Ghosts.{Ghost, heads}
+use Rattle.routes.specs.invariant.Memories.{Core}
+use Rattle.routes.specs.invariant.Readers.{Settled}
+use Rattle.routes.specs.invariant.Registers.{holdsIn, passedIn}
+use Rattle.routes.specs.invariant.Holders.{Resting}
+use Rattle.routes.specs.invariant.Gathering.{Gathers, ObtainFacts}
+use Rattle.routes.specs.invariant.Checking.{CheckFacts}
+use Rattle.routes.specs.invariant.Writers.{PhaseFacts, hallOf}
+use Rattle.routes.specs.invariant.Inv.{Cpus, Inv}
+use Rattle.routes.proofs.late.Sees.{sees-none}
+use Rattle.routes.proofs.run.Make.{settle-no}
+use Rattle.routes.proofs.run.Steps.{now-own}
+use Rattle.routes.proofs.invariant.Alike.{alike-same, alike-settled}
+use Rattle.routes.proofs.invariant.Rely.{Leaves, leaves-same}
+use Rattle.routes.proofs.invariant.Steps.{lockOf, setCpu, Turn}
+use Rattle.routes.proofs.invariant.Holding.{hold-turn, core-counted, holder-facts, holder-room}
+use Rattle.routes.proofs.invariant.Kinds.{withRow, core-row, heads-none, still-none, leaves-row}
+use Rattle.routes.proofs.invariant.CheckNext.{Goes, onward, obtains, rejects, Refused, Loads, check-next}
+
+-- memory that was asked, or was not
+abbrev pub asked : Bool → Mem → Mem
+asked true m = counted m
+asked false m = m
+
+-- All that holds of the memory still does.
+core-asked : {m : Mem} {h : ℕ} {locked : Bool} {g : Ghost} {rs : List Route} {t : ℕ} (b : Bool) → Core m h locked g rs t → Core (asked b m) h locked g rs t
+core-asked true o = core-counted o
+core-asked false o = o
+
+-- Words, late stores and processors are the same.
+val-asked : (b : Bool) (m : Mem) → asked b m .val ≡ m .val
+val-asked true m = refl
+val-asked false m = refl
+
+late-asked : (b : Bool) (m : Mem) → asked b m .late ≡ m .late
+late-asked true m = refl
+late-asked false m = refl
+
+cpus-asked : (b : Bool) (m : Mem) → asked b m .cpus ≡ m .cpus
+cpus-asked true m = refl
+cpus-asked false m = refl
+
+-- What takes effect is as young as before.
+pub young-settled : (p : ℕ) (k : Ask) (ps : List Piece) (a : Answer) (age : ℕ) (t : List Route) (s : State) → s .now' p ≡ Under k ps age → T (young (s .now' p)) → T (young (settledAt p k a age t s .now' p))
+unfolding young
+young-settled p k ps a age t s e y = rw (now-own p (Over k a age) t s) (rw e at y)
+
+module _ {m : Mem} {g : Ghost} {trail : ℕ → List ℕ} {s : State} {t : ℕ} {c : Cpus} {p cpus blocks : ℕ} {es : List Event}
+         (i : Inv m (lockOf p true) g trail s t c) (r : Run cpus blocks es s) (y : T (young (s .now' p))) where
+  -- On in Check.
+  onward-turn : (b : Bool) (l : Job) (k : Check) → CheckFacts g (c .own p) (s .table) (s .now' p) l k → Turn (asked b m) t (setCpu p (Updating l (InCheck k)) (c .own p) c) cpus blocks (Turned p ∷ es)
+  unfolding holdsIn passedIn PhaseFacts
+  onward-turn b l k f = hold-turn i (alike-same p s) r y (record
+    { core = core-asked b (i .core); leaves = λ q. leaves-same g (trail q) q (val-asked b m); cpus = cpus-asked b m
+    ; holds' = refl; room = holder-room i; facts = f; scanned = λ q a n. absurd (omega arith) })
+
+  -- On to Obtain, where LIMBO_HEAD and LIMBO_TAIL may be late.
+  obtains-turn : (b : Bool) (l : Job) → m .late p ≡ [] → Gathers (withRow heads g) (c .own p) (s .table) (s .now' p) l → Turn (asked b m) t (setCpu p (Updating l (InObtain Get)) (c .own p) c) cpus blocks (Turned p ∷ es)
+  unfolding holdsIn passedIn PhaseFacts ObtainFacts
+  obtains-turn b l none f = hold-turn i (alike-same p s) r y (record
+    { core = core-row heads (heads-none (asked b m) p (withRow heads g) _ (ap (λ z. z p) (late-asked b m) ∙ none)) (core-asked b (i .core))
+    ; leaves = λ q. leaves-row g heads (trail q) q (val-asked b m); cpus = cpus-asked b m
+    ; holds' = refl; room = holder-room i; facts = f; scanned = λ q a n. absurd (omega arith) })
+
+  -- On to Reject: here the change takes effect, and is turned away.
+  rejects-turn : (b : Bool) (j : Job) (why : Refusal) → Refused g (s .table) (s .now' p) (numberOf why) → Turn (asked b m) t (setCpu p (Updating j (InCheck (Reject why))) (c .own p) c) cpus blocks (Turned p ∷ es)
+  unfolding holdsIn passedIn PhaseFacts CheckFacts
+  rejects-turn b j why f =
+    let e = f .awaits .2 in
+    hold-turn i (alike-settled p (Change (f .awaits .0)) (f .ps) (No (numberOf why)) (f .awaits .1) s e) (settle-no r p (f .awaits .0) (f .ps) (f .awaits .1) (numberOf why) e (f .wrong))
+      (young-settled p (Change (f .awaits .0)) (f .ps) (No (numberOf why)) (f .awaits .1) (s .table) s e y) (record
+    { core = core-asked b (i .core); leaves = λ q. leaves-same g (trail q) q (val-asked b m); cpus = cpus-asked b m; holds' = refl; room = holder-room i
+    ; facts = (f .resting, (f .awaits .0, f .awaits .1, now-own p _ (s .table) s)); scanned = λ q a n. absurd (omega arith) })
+
+  -- What a turn of Check comes to is one of these.
+  goes-turn : (b : Bool) (j : Job) (u : UpdateNext) → m .late p ≡ [] → Goes g (c .own p) (s .table) (s .now' p) j u → Turn (asked b m) t (setCpu p (workOfUpdate u) (c .own p) c) cpus blocks (Turned p ∷ es)
+  goes-turn b j u none (onward l k e f) = rw e (onward-turn b l k f)
+  goes-turn b j u none (obtains l e f) = rw e (obtains-turn b l none f)
+  goes-turn b j u none (rejects why e f) = rw e (rejects-turn b j why f)
+
+-- In all of Check nothing is late.
+check-rests : (g : Ghost) (o : List ℕ) (rs : List Route) (n : Now) (j : Job) (k : Check) → CheckFacts g o rs n j k → Resting g
+unfolding CheckFacts
+check-rests g o rs n j (AtPiece k) f = f .resting
+check-rests g o rs n j (Root k) f = f .0 .resting
+check-rests g o rs n j (Slot k d b) f = f .0 .resting
+check-rests g o rs n j (AtRoute k b) f = f .0 .resting
+check-rests g o rs n j (Reject why) f = f .0
+
+-- does Check ask the memory, and is it at its end
+abbrev pub asksIn : Check → Bool
+asksIn (AtPiece k) = false
+asksIn (Root k) = true
+asksIn (Slot k d b) = true
+asksIn (AtRoute k b) = true
+asksIn (Reject why) = true
+
+abbrev pub rejected : Check → Bool
+rejected (AtPiece k) = false
+rejected (Root k) = false
+rejected (Slot k d b) = false
+rejected (AtRoute k b) = false
+rejected (Reject why) = true
+
+-- The reply is the word in memory; what is late may arrive behind it.
+check-did : (p : ℕ) (m : Mem) (o : List ℕ) (k : Check) (x : ℕ) (n : Mem) → rejected k ≡ false → m .late p ≡ [] → Did p (checkAct p k o) m x n → Loads (m .val) o k x × Arrives (asked (asksIn k) m) n
+unfolding Loads
+check-did p m o (AtPiece k) x n z none d = (tt, subst (Arrives m) (sym (d .1)) (rest m))
+check-did p m o (Root k) x n z none d = (d .0 ∙ sees-none p 0 1 m none, d .1)
+check-did p m o (Slot k e b) x n z none d = (d .0 ∙ sees-none p b _ m none, d .1)
+check-did p m o (AtRoute k b) x n z none d = (d .0 ∙ sees-none p b _ m none, d .1)
+check-did p m o (Reject why) x n z none d = absurd (true≢false z)
+
+-- A turn of Check, but for Reject, and what may arrive behind it.
+pub check-turn : {m : Mem} {g : Ghost} {trail : ℕ → List ℕ} {s : State} {t : ℕ} {c : Cpus} {p cpus blocks : ℕ} {es : List Event} (j : Job) (k : Check) (x : ℕ) {n : Mem} →
+    Inv m (lockOf p true) g trail s t c → Run cpus blocks es s → T (young (s .now' p)) → rejected k ≡ false → c .work p ≡ Updating j (InCheck k) → Did p (checkAct p k (c .own p)) m x n →
+    Turn (asked (asksIn k) m) t (setCpu p (workOfUpdate (checkAfter j k (c .own p) x)) (c .own p) c) cpus blocks (Turned p ∷ es) × Arrives (asked (asksIn k) m) n
+unfolding PhaseFacts
+check-turn {m} {g} {trail} {s} {t} {c} {p} j k x {n} i r y z e d =
+    let l = check-did p m (c .own p) k x n z none d in
+    ( goes-turn i r y (asksIn k) j (checkAfter j k (c .own p) x) none (check-next (m .val) g (c .own p) (s .table) (s .now' p) j k x (i .core .root) (i .core .repr) (i .core .good) facts (l .0))
+    , l .1 )
+  where
+    facts : CheckFacts g (c .own p) (s .table) (s .now' p) j k
+    facts = holder-facts i j (InCheck k) e
+    none : m .late p ≡ []
+    none = still-none m p g _ (check-rests g (c .own p) (s .table) (s .now' p) j k facts .has .row) (i .core .row)

@@ -1,13 +1,17 @@
 pub mod Aging
 pub mod Alike
 pub mod Apart
+pub mod Arriving
+pub mod Calm
 pub mod Holding
+pub mod Moment
 pub mod Rely
 pub mod Passing
 pub mod Kinds
 pub mod CheckReady
 pub mod CheckNext
 pub mod WriterWord
+pub mod Ripening
 pub mod Steps
 pub mod Storing
 pub mod Locks

@@ -17,7 +17,7 @@ use Rattle.routes.specs.declared.update.finish.Finish.the-variants.{Unlock}
 use Rattle.routes.specs.declared.update.obtain.Obtain.the-variants.{Full}
 use Rattle.routes.specs.declared.update.Phase.{Phase}
 use Rattle.routes.specs.declared.update.Phase.the-variants.{Check, Obtain, Finish}
-use Rattle.routes.specs.declared.work.Work.the-variants.{Idle}
+use Rattle.routes.specs.declared.work.Work.the-variants.{Idle, Update as Updating}
 use Rattle.routes.specs.Memory.{Mem, counted, fenced, swapped}
 use Rattle.routes.specs.Refusals.{numberOf}
 use Rattle.routes.specs.Routes.{Route, Event, Told, Turned, Now, Over, State, Run, turns, tells, young, older, mustWait}
@@ -32,12 +32,13 @@ use Rattle.routes.specs.invariant.Gathering.{ObtainFacts}
 use Rattle.routes.specs.invariant.Retiring.{FinishFacts}
 use Rattle.routes.specs.invariant.Writers.{Hall, PhaseFacts, Writer}
 use Rattle.routes.specs.invariant.Inv.{Cpus, Inv}
-use Rattle.routes.proofs.late.Fence.{swap-none}
+use Rattle.routes.proofs.late.Fence.{fence-arrives, fence-empties, swap-none}
 use Rattle.routes.proofs.run.Leads.{one-told-own}
 use Rattle.routes.proofs.run.Steps.{now-own, now-other, turned-over, told-now}
+use Rattle.routes.proofs.invariant.Arriving.{Still, young-passes, arrives-inv}
 use Rattle.routes.proofs.invariant.Kinds.{withRow}
 use Rattle.routes.proofs.invariant.Steps.{lockOf, setCpu, Turn, steps-inv, holds-silent}
-use Rattle.routes.proofs.invariant.Holding.{holder-holds, others-free, holder-small, holder-does, holder-room}
+use Rattle.routes.proofs.invariant.Holding.{holder-facts, holder-holds, others-free, holder-small, holder-does, holder-room}
 use Rattle.routes.proofs.invariant.WriterWord.{writer-core, writer-leaves}
 
 -- an update is to be told a, and leaves nothing over but a late row
@@ -93,3 +94,14 @@ module _ {m : Mem} {g : Ghost} {trail : ℕ → List ℕ} {s : State} {t : ℕ} 
       ; room = holder-room i
       ; writer = record { has = record { row = refl; loose = f .loose; fresh = f .fresh }; whole = f .whole }
       ; scanned = λ q b l. absurd (omega arith) }) })
+
+-- What is late arrives, and then the lock is given up.
+pub unlock-turn : {m : Mem} {g : Ghost} {trail : ℕ → List ℕ} {s : State} {t : ℕ} {c : Cpus} {p cpus blocks : ℕ} {es : List Event} (j : Job) (ph : Phase) (a : Answer) → Parts j ph a →
+    Inv m (lockOf p true) g trail s t c → Run cpus blocks es s → T (young (s .now' p)) → c .work p ≡ Updating j ph →
+    Turn (counted (swapped p 0 0 (p + 1) 0 m)) t (setCpu p Idle (c .own p) c) cpus blocks (Told p a ∷ Turned p ∷ es)
+unlock-turn {m} {g} {trail} {s} {t} {c} {p} {cpus} {blocks} {es} j ph a parts i r y e =
+    subst (λ n. Turn (counted n) t (setCpu p Idle (c .own p) c) cpus blocks (Told p a ∷ Turned p ∷ es)) (swap-none p 0 0 (p + 1) 0 (fenced p m) (fence-empties p m))
+      (unlock-step (k .inv) (fence-empties p m) a (parts _ _ (k .ghost) (c .own p) (k .state .table) (k .state .now' p) (holder-facts (k .inv) j ph e)) (k .run) (young-passes (k .nows p) y))
+  where
+    k : Still m (lockOf p true) g trail s t c cpus blocks es (fenced p m)
+    k = arrives-inv (fence-arrives p m) i r

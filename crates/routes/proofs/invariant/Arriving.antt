@@ -5,38 +5,20 @@ use mathlib.Core.List.{List, [], _∷_}
 use mathlib.Core.Logic.{_⊎_, inl, inr}
 use Prim.Native.Nat.{ℕ, _+_, _≤_}
 use native.Mathlib.Omega.{arith}
-use lib.Dec.{T}
 use Rattle.std.proofs.shelf.Ways.{tells as tests, eqb-tells}
-use Rattle.routes.specs.declared.Answer.the-variants.{Done}
 use Rattle.routes.specs.declared.Ask.the-variants.{Change}
-use Rattle.routes.specs.declared.Piece.{Piece}
 use Rattle.routes.specs.Memory.{Mem, Store, Arrives, rest, one, oldest}
-use Rattle.routes.specs.Routes.{Event, Now, Under, Over, State, Run, young, limit}
+use Rattle.routes.specs.Routes.{Event, Under, State, Run}
 use Rattle.routes.specs.counts.Counts.{cnt}
 use Rattle.routes.specs.late.Steps.{landed}
 use Rattle.routes.specs.invariant.Ghosts.{Ghost}
 use Rattle.routes.specs.invariant.Inv.{Lock, Cpus, Inv}
 use Rattle.routes.proofs.late.Arriving.{oldest-none, oldest-some}
-use Rattle.routes.proofs.invariant.Apart.{once}
+use Rattle.routes.proofs.invariant.Alike.{Passes, same, over, passes-on}
 use Rattle.routes.proofs.invariant.Calm.{plain, calm-inv}
 use Rattle.routes.proofs.invariant.Ripening.{RipeAt, writer-row}
+use Rattle.routes.proofs.invariant.Steps.{Turn}
 use Rattle.routes.proofs.invariant.Moment.{after, published, settled, root-late, moment-inv, moment-run, gone-apart}
-
--- what is under way stays, or a change takes effect
-pub data Passes : Now → Now → Type 0 where
-  same : {n : Now} → Passes n n
-  over : {size age : ℕ} {ps : List Piece} → Passes (Under (Change size) ps age) (Over (Change size) Done age)
-
--- One after the other.
-passes-on : {a b c : Now} → Passes a b → Passes b c → Passes a c
-passes-on same q = q
-passes-on over same = over
-
--- What is young stays so.
-pub young-passes : {a b : Now} → Passes a b → T (young a) → T (young b)
-unfolding young limit
-young-passes same y = y
-young-passes over y = y
 
 -- m' is m after arriving: ghosts and state may have changed by the moment of a change, and nothing else has
 pub record Still (m : Mem) (k : Lock) (g : Ghost) (trail : ℕ → List ℕ) (s : State) (t : ℕ) (c : Cpus) (cpus blocks : ℕ) (es : List Event) (m' : Mem) : Type 0 where
@@ -108,3 +90,12 @@ arrives-inv (one {m = m} q a) i r =
       ; held = y .held ∙ x .held
       ; cpus' = y .cpus' ∙ x .cpus'
       ; blocks' = y .blocks' ∙ x .blocks' }
+
+-- What arrives after a turn keeps what it led to.
+pub turn-arrives : {m n : Mem} {t : ℕ} {c : Cpus} {cpus blocks : ℕ} {es : List Event} {p : ℕ} {s : State} → Arrives m n → Turn m t c cpus blocks es p s → Turn n t c cpus blocks es p s
+turn-arrives a u =
+    let x = arrives-inv a (u .inv) (u .run) in
+    record
+      { lock = u .lock; ghost = x .ghost; trail = u .trail; state = x .state; run = x .run; inv = x .inv; before = u .before; hidden = u .hidden; middle = u .middle; ends = u .ends
+      ; nows = λ q. passes-on (u .nows q) (x .nows q)
+      ; waits = x .waits ∙ u .waits }

@@ -15,5 +15,6 @@ pub mod Ripening
 pub mod Steps
 pub mod Storing
 pub mod Locks
+pub mod PlainArrives
 pub mod Unlocks
 pub mod CheckTurns

@@ -78,14 +78,14 @@ young-settled p k ps a age t s e y = rw (now-own p (Over k a age) t s) (rw e at 
 module _ {m : Mem} {g : Ghost} {trail : ℕ → List ℕ} {s : State} {t : ℕ} {c : Cpus} {p cpus blocks : ℕ} {es : List Event}
          (i : Inv m (lockOf p true) g trail s t c) (r : Run cpus blocks es s) (y : T (young (s .now' p))) where
   -- On in Check.
-  onward-turn : (b : Bool) (l : Job) (k : Check) → CheckFacts g (c .own p) (s .table) (s .now' p) l k → Turn (asked b m) t (setCpu p (Updating l (InCheck k)) (c .own p) c) cpus blocks (Turned p ∷ es)
+  onward-turn : (b : Bool) (l : Job) (k : Check) → CheckFacts g (c .own p) (s .table) (s .now' p) l k → Turn (asked b m) t (setCpu p (Updating l (InCheck k)) (c .own p) c) cpus blocks (Turned p ∷ es) p s
   unfolding holdsIn passedIn PhaseFacts
   onward-turn b l k f = hold-turn i (alike-same p s) r y (record
     { core = core-asked b (i .core); leaves = λ q. leaves-same g (trail q) q (val-asked b m); cpus = cpus-asked b m
     ; holds' = refl; room = holder-room i; facts = f; scanned = λ q a n. absurd (omega arith) })
 
   -- On to Obtain, where LIMBO_HEAD and LIMBO_TAIL may be late.
-  obtains-turn : (b : Bool) (l : Job) → m .late p ≡ [] → Gathers (withRow heads g) (c .own p) (s .table) (s .now' p) l → Turn (asked b m) t (setCpu p (Updating l (InObtain Get)) (c .own p) c) cpus blocks (Turned p ∷ es)
+  obtains-turn : (b : Bool) (l : Job) → m .late p ≡ [] → Gathers (withRow heads g) (c .own p) (s .table) (s .now' p) l → Turn (asked b m) t (setCpu p (Updating l (InObtain Get)) (c .own p) c) cpus blocks (Turned p ∷ es) p s
   unfolding holdsIn passedIn PhaseFacts ObtainFacts
   obtains-turn b l none f = hold-turn i (alike-same p s) r y (record
     { core = core-row heads (heads-none (asked b m) p (withRow heads g) _ (ap (λ z. z p) (late-asked b m) ∙ none)) (core-asked b (i .core))
@@ -93,7 +93,7 @@ module _ {m : Mem} {g : Ghost} {trail : ℕ → List ℕ} {s : State} {t : ℕ} 
     ; holds' = refl; room = holder-room i; facts = f; scanned = λ q a n. absurd (omega arith) })
 
   -- On to Reject: here the change takes effect, and is turned away.
-  rejects-turn : (b : Bool) (j : Job) (why : Refusal) → Refused g (s .table) (s .now' p) (numberOf why) → Turn (asked b m) t (setCpu p (Updating j (InCheck (Reject why))) (c .own p) c) cpus blocks (Turned p ∷ es)
+  rejects-turn : (b : Bool) (j : Job) (why : Refusal) → Refused g (s .table) (s .now' p) (numberOf why) → Turn (asked b m) t (setCpu p (Updating j (InCheck (Reject why))) (c .own p) c) cpus blocks (Turned p ∷ es) p s
   unfolding holdsIn passedIn PhaseFacts CheckFacts
   rejects-turn b j why f =
     let e = f .awaits .2 in
@@ -103,7 +103,7 @@ module _ {m : Mem} {g : Ghost} {trail : ℕ → List ℕ} {s : State} {t : ℕ} 
     ; facts = (f .resting, (f .awaits .0, f .awaits .1, now-own p _ (s .table) s)); scanned = λ q a n. absurd (omega arith) })
 
   -- What a turn of Check comes to is one of these.
-  goes-turn : (b : Bool) (j : Job) (u : UpdateNext) → m .late p ≡ [] → Goes g (c .own p) (s .table) (s .now' p) j u → Turn (asked b m) t (setCpu p (workOfUpdate u) (c .own p) c) cpus blocks (Turned p ∷ es)
+  goes-turn : (b : Bool) (j : Job) (u : UpdateNext) → m .late p ≡ [] → Goes g (c .own p) (s .table) (s .now' p) j u → Turn (asked b m) t (setCpu p (workOfUpdate u) (c .own p) c) cpus blocks (Turned p ∷ es) p s
   goes-turn b j u none (onward l k e f) = rw e (onward-turn b l k f)
   goes-turn b j u none (obtains l e f) = rw e (obtains-turn b l none f)
   goes-turn b j u none (rejects why e f) = rw e (rejects-turn b j why f)
@@ -144,7 +144,7 @@ check-did p m o (Reject why) x n z none d = absurd (true≢false z)
 -- A turn of Check, but for Reject, and what may arrive behind it.
 pub check-turn : {m : Mem} {g : Ghost} {trail : ℕ → List ℕ} {s : State} {t : ℕ} {c : Cpus} {p cpus blocks : ℕ} {es : List Event} (j : Job) (k : Check) (x : ℕ) {n : Mem} →
     Inv m (lockOf p true) g trail s t c → Run cpus blocks es s → T (young (s .now' p)) → rejected k ≡ false → c .work p ≡ Updating j (InCheck k) → Did p (checkAct p k (c .own p)) m x n →
-    Turn (asked (asksIn k) m) t (setCpu p (workOfUpdate (checkAfter j k (c .own p) x)) (c .own p) c) cpus blocks (Turned p ∷ es) × Arrives (asked (asksIn k) m) n
+    Turn (asked (asksIn k) m) t (setCpu p (workOfUpdate (checkAfter j k (c .own p) x)) (c .own p) c) cpus blocks (Turned p ∷ es) p s × Arrives (asked (asksIn k) m) n
 unfolding PhaseFacts
 check-turn {m} {g} {trail} {s} {t} {c} {p} j k x {n} i r y z e d =
     let l = check-did p m (c .own p) k x n z none d in

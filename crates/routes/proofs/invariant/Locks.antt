@@ -31,9 +31,9 @@ use Rattle.routes.proofs.late.Fence.{swap-none}
 use Rattle.routes.proofs.late.Only.{only-none}
 use Rattle.routes.proofs.run.Leads.{no-leader, one-led}
 use Rattle.routes.proofs.run.Steps.{now-own, now-other, turned-kind}
-use Rattle.routes.proofs.invariant.Alike.{saying-older}
+use Rattle.routes.proofs.invariant.Alike.{hidden-led, saying-older}
 use Rattle.routes.proofs.invariant.Kinds.{withRow, still-none}
-use Rattle.routes.proofs.invariant.Steps.{lockOf, setCpu, Turn, steps-inv}
+use Rattle.routes.proofs.invariant.Steps.{setCpu, Turn, turn-on, steps-inv}
 use Rattle.routes.proofs.invariant.WriterWord.{writer-core, writer-leaves}
 
 -- Where the lock was had last and is not held, nothing is left over.
@@ -102,15 +102,13 @@ module _ {m : Mem} {k : Lock} {g : Ghost} {trail : ℕ → List ℕ} {s : State}
         ; retired = ap (λ z. z .retired) (u .3) }
 
       -- The lock is got, and its update leads from here on.
-      pub lock-got : Turn (counted (swapped p 0 0 0 (p + 1) m)) t (setCpu p (Updating j (Check (AtPiece 0))) (c .own p) c) cpus blocks (Turned p ∷ es)
+      pub lock-got : Turn (counted (swapped p 0 0 0 (p + 1) m)) t (setCpu p (Updating j (Check (AtPiece 0))) (c .own p) c) cpus blocks (Turned p ∷ es) p s
       unfolding holds holdsIn announced loaded passed passedIn Does Updates Writer PhaseFacts CheckFacts isChange
       lock-got =
         let u = does-lock .1 in
         let none : leader cpus p s ≡ false = no-leader cpus p s (λ q ne. i .leads q ∙ ap (λ z. z && eqb q (k .who)) free) in
         let run : Run cpus blocks es (led p s) = leads p r (u .1 .2) (rw none tt) in
-        rw swap-free (record
-        { lock = lockOf p true; ghost = withRow still g; trail = trail; state = after; run = turns p run y
-        ; inv = steps-inv i (record
+        rw swap-free (turn-on (hidden-led p s) run y (steps-inv i (record
           { core = writer-core (i .core) (free-late (k .who)) (p + 1) p true (omega arith)
           ; leaves = λ q. writer-leaves (i .core) (free-late (k .who)) (p + 1) (trail q) q (i .readers q .safe)
           ; nows = λ q ne. now-other p q _ (s .table) (led p s) ne
@@ -121,4 +119,4 @@ module _ {m : Mem} {k : Lock} {g : Ghost} {trail : ℕ → List ℕ} {s : State}
           ; does = (does-lock .0, turned-kind cpus p p (led p s) .change ∙ rw (u .1 .2))
           ; room = i .room p small
           ; writer = first
-          ; scanned = λ q b l. absurd (omega arith) }) })
+          ; scanned = λ q b l. absurd (omega arith) })))

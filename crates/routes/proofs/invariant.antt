@@ -17,4 +17,6 @@ pub mod Storing
 pub mod Locks
 pub mod PlainArrives
 pub mod Unlocks
+pub mod Seen
 pub mod CheckTurns
+pub mod LockTurns

@@ -6,7 +6,6 @@ use Prim.Native.Nat.{ℕ, _+_, _<_, _≤_}
 use native.Mathlib.Omega.{arith}
 use lib.Dec.{T}
 use lib.ListN.{length}
-use Rattle.std.proofs.shelf.Tests.{true≢false}
 use Rattle.routes.specs.declared.Answer.the-variants.{No}
 use Rattle.routes.specs.declared.Ask.{Ask}
 use Rattle.routes.specs.declared.Ask.the-variants.{Change}
@@ -27,7 +26,7 @@ use Rattle.routes.specs.late.View.{view}
 use Rattle.routes.specs.run.Steps.{settledAt}
 use Rattle.routes.specs.machine.Acts.{Did}
 use Rattle.routes.specs.machine.Checks.{checkAct, checkAfter, pieceIn}
-use Rattle.routes.specs.machine.Cpus.{workOfUpdate}
+use Rattle.routes.specs.machine.Cpus.{workOfUpdate, toldOfUpdate}
 use Rattle.routes.specs.invariant.Ghosts.{Ghost, heads}
 use Rattle.routes.specs.invariant.Memories.{Core}
 use Rattle.routes.specs.invariant.Readers.{Settled}
@@ -45,6 +44,9 @@ use Rattle.routes.proofs.invariant.Rely.{Leaves, leaves-same}
 use Rattle.routes.proofs.invariant.Steps.{lockOf, setCpu, Turn}
 use Rattle.routes.proofs.invariant.Holding.{hold-turn, core-counted, holder-facts, holder-room}
 use Rattle.routes.proofs.invariant.Kinds.{withRow, core-row, heads-none, still-none, leaves-row}
+use Rattle.routes.proofs.invariant.Arriving.{turn-arrives}
+use Rattle.routes.proofs.invariant.Seen.{seenOf}
+use Rattle.routes.proofs.invariant.Unlocks.{reject-parts, unlock-turn}
 use Rattle.routes.proofs.invariant.CheckNext.{Goes, onward, obtains, rejects, Refused, Loads, check-next}
 
 -- memory that was asked, or was not
@@ -103,10 +105,17 @@ module _ {m : Mem} {g : Ghost} {trail : ℕ → List ℕ} {s : State} {t : ℕ} 
     ; facts = (f .resting, (f .awaits .0, f .awaits .1, now-own p _ (s .table) s)); scanned = λ q a n. absurd (omega arith) })
 
   -- What a turn of Check comes to is one of these.
-  goes-turn : (b : Bool) (j : Job) (u : UpdateNext) → m .late p ≡ [] → Goes g (c .own p) (s .table) (s .now' p) j u → Turn (asked b m) t (setCpu p (workOfUpdate u) (c .own p) c) cpus blocks (Turned p ∷ es) p s
+  goes-turn : (b : Bool) (j : Job) (u : UpdateNext) → m .late p ≡ [] → Goes g (c .own p) (s .table) (s .now' p) j u →
+      Turn (asked b m) t (setCpu p (workOfUpdate u) (c .own p) c) cpus blocks (seenOf p (toldOfUpdate u) es) p s
   goes-turn b j u none (onward l k e f) = rw e (onward-turn b l k f)
   goes-turn b j u none (obtains l e f) = rw e (obtains-turn b l none f)
   goes-turn b j u none (rejects why e f) = rw e (rejects-turn b j why f)
+
+  -- A state that loads, or only looks at its own words, and what arrives behind it.
+  looks-turn : (b : Bool) (j : Job) (k : Check) (x : ℕ) {n : Mem} → CheckFacts g (c .own p) (s .table) (s .now' p) j k → m .late p ≡ [] → Loads (m .val) (c .own p) k x → Arrives (asked b m) n →
+      Turn n t (setCpu p (workOfUpdate (checkAfter j k (c .own p) x)) (c .own p) c) cpus blocks (seenOf p (toldOfUpdate (checkAfter j k (c .own p) x)) es) p s
+  looks-turn b j k x f none l a = turn-arrives a (goes-turn b j (checkAfter j k (c .own p) x) none
+    (check-next (m .val) g (c .own p) (s .table) (s .now' p) j k x (i .core .root) (i .core .repr) (i .core .good) f l))
 
 -- In all of Check nothing is late.
 check-rests : (g : Ghost) (o : List ℕ) (rs : List Route) (n : Now) (j : Job) (k : Check) → CheckFacts g o rs n j k → Resting g
@@ -117,41 +126,19 @@ check-rests g o rs n j (Slot k d b) f = f .0 .resting
 check-rests g o rs n j (AtRoute k b) f = f .0 .resting
 check-rests g o rs n j (Reject why) f = f .0
 
--- does Check ask the memory, and is it at its end
-abbrev pub asksIn : Check → Bool
-asksIn (AtPiece k) = false
-asksIn (Root k) = true
-asksIn (Slot k d b) = true
-asksIn (AtRoute k b) = true
-asksIn (Reject why) = true
-
-abbrev pub rejected : Check → Bool
-rejected (AtPiece k) = false
-rejected (Root k) = false
-rejected (Slot k d b) = false
-rejected (AtRoute k b) = false
-rejected (Reject why) = true
-
--- The reply is the word in memory; what is late may arrive behind it.
-check-did : (p : ℕ) (m : Mem) (o : List ℕ) (k : Check) (x : ℕ) (n : Mem) → rejected k ≡ false → m .late p ≡ [] → Did p (checkAct p k o) m x n → Loads (m .val) o k x × Arrives (asked (asksIn k) m) n
-unfolding Loads
-check-did p m o (AtPiece k) x n z none d = (tt, subst (Arrives m) (sym (d .1)) (rest m))
-check-did p m o (Root k) x n z none d = (d .0 ∙ sees-none p 0 1 m none, d .1)
-check-did p m o (Slot k e b) x n z none d = (d .0 ∙ sees-none p b _ m none, d .1)
-check-did p m o (AtRoute k b) x n z none d = (d .0 ∙ sees-none p b _ m none, d .1)
-check-did p m o (Reject why) x n z none d = absurd (true≢false z)
-
--- A turn of Check, but for Reject, and what may arrive behind it.
+-- A turn of Check.
 pub check-turn : {m : Mem} {g : Ghost} {trail : ℕ → List ℕ} {s : State} {t : ℕ} {c : Cpus} {p cpus blocks : ℕ} {es : List Event} (j : Job) (k : Check) (x : ℕ) {n : Mem} →
-    Inv m (lockOf p true) g trail s t c → Run cpus blocks es s → T (young (s .now' p)) → rejected k ≡ false → c .work p ≡ Updating j (InCheck k) → Did p (checkAct p k (c .own p)) m x n →
-    Turn (asked (asksIn k) m) t (setCpu p (workOfUpdate (checkAfter j k (c .own p) x)) (c .own p) c) cpus blocks (Turned p ∷ es) p s × Arrives (asked (asksIn k) m) n
-unfolding PhaseFacts
-check-turn {m} {g} {trail} {s} {t} {c} {p} j k x {n} i r y z e d =
-    let l = check-did p m (c .own p) k x n z none d in
-    ( goes-turn i r y (asksIn k) j (checkAfter j k (c .own p) x) none (check-next (m .val) g (c .own p) (s .table) (s .now' p) j k x (i .core .root) (i .core .repr) (i .core .good) facts (l .0))
-    , l .1 )
+    Inv m (lockOf p true) g trail s t c → Run cpus blocks es s → T (young (s .now' p)) → c .work p ≡ Updating j (InCheck k) → Did p (checkAct p k (c .own p)) m x n →
+    Turn n t (setCpu p (workOfUpdate (checkAfter j k (c .own p) x)) (c .own p) c) cpus blocks (seenOf p (toldOfUpdate (checkAfter j k (c .own p) x)) es) p s
+unfolding PhaseFacts Loads
+check-turn {m} {g} {trail} {s} {t} {c} {p} {cpus} {blocks} {es} j k x {n} i r y e d = go k e d (holder-facts i j (InCheck k) e)
   where
-    facts : CheckFacts g (c .own p) (s .table) (s .now' p) j k
-    facts = holder-facts i j (InCheck k) e
-    none : m .late p ≡ []
-    none = still-none m p g _ (check-rests g (c .own p) (s .table) (s .now' p) j k facts .has .row) (i .core .row)
+    none : (k : Check) → CheckFacts g (c .own p) (s .table) (s .now' p) j k → m .late p ≡ []
+    none k f = still-none m p g _ (check-rests g (c .own p) (s .table) (s .now' p) j k f .has .row) (i .core .row)
+    go : (k : Check) → c .work p ≡ Updating j (InCheck k) → Did p (checkAct p k (c .own p)) m x n → CheckFacts g (c .own p) (s .table) (s .now' p) j k →
+        Turn n t (setCpu p (workOfUpdate (checkAfter j k (c .own p) x)) (c .own p) c) cpus blocks (seenOf p (toldOfUpdate (checkAfter j k (c .own p) x)) es) p s
+    go (AtPiece k) e d f = looks-turn i r y false j (AtPiece k) x f (none (AtPiece k) f) tt (subst (Arrives m) (sym (d .1)) (rest m))
+    go (Root k) e d f = looks-turn i r y true j (Root k) x f (none (Root k) f) (d .0 ∙ sees-none p 0 1 m (none (Root k) f)) (d .1)
+    go (Slot k l b) e d f = looks-turn i r y true j (Slot k l b) x f (none (Slot k l b) f) (d .0 ∙ sees-none p b _ m (none (Slot k l b) f)) (d .1)
+    go (AtRoute k b) e d f = looks-turn i r y true j (AtRoute k b) x f (none (AtRoute k b) f) (d .0 ∙ sees-none p b _ m (none (AtRoute k b) f)) (d .1)
+    go (Reject why) e d f = turn-arrives (d .1) (unlock-turn j (InCheck (Reject why)) (No (numberOf why)) (reject-parts j why) i r y e)

@@ -1,12 +1,12 @@
 -- Check: what its turns come to, by what was loaded.
-use mathlib.Core.Path.{_≡_, refl, sym, ap, subst, _∙_}
+use mathlib.Core.Path.{_≡_, refl, sym, ap, _∙_}
 use mathlib.Core.Bool.{Bool, true, false, cond, not}
-use mathlib.Core.List.{List, []}
+use mathlib.Core.List.{List}
 use mathlib.Core.Logic.{inl, inr}
-use Prim.Native.Nat.{ℕ, suc, _+_, _/_, _<_, _≤_}
+use Prim.Native.Nat.{ℕ, suc, _+_, _/_, _≤_}
 use native.Mathlib.Omega.{arith}
 use lib.Dec.{eqb, ltb}
-use lib.ListN.{length, take, getD}
+use lib.ListN.{take, getD}
 use Rattle.std.proofs.shelf.Ways.{eqb-tells}
 use Rattle.std.proofs.shelf.Tests.{cases-bool, ltb-true, ltb-false}
 use Rattle.std.specs.declared.result.Result.the-variants.{Ok}
@@ -29,18 +29,17 @@ use Rattle.routes.specs.declared.update.UpdateNext.the-variants.{On}
 use Rattle.routes.specs.Refusals.{numberOf}
 use Rattle.routes.specs.Routes.{Route, Now, Table, Wrong, has, clean, without, piece, pieces, changed}
 use Rattle.routes.specs.machine.Begins.{blank}
-use Rattle.routes.specs.machine.Jobs.{needing}
-use Rattle.routes.specs.machine.Checks.{CleanIn, pieceIn, earlierIn, passed, taking, lookedAt, entered, foundRoute, decided, descent, checkAfter}
+use Rattle.routes.specs.machine.Checks.{CleanIn, pieceIn, earlierIn, passed, taking, lookedAt, entered, foundRoute, decided, checkAfter}
 use Rattle.routes.specs.build.Stages.{wants}
 use Rattle.routes.specs.build.Checks.{thereAfter}
 use Rattle.routes.specs.counts.Counts.{seg}
-use Rattle.routes.specs.tree.Trees.{Tree, blockOf}
+use Rattle.routes.specs.tree.Trees.{blockOf}
 use Rattle.routes.specs.tree.Walks.{Good, down}
 use Rattle.routes.specs.repr.Repr.{Repr}
-use Rattle.routes.specs.invariant.Ghosts.{Ghost, Row, heads}
+use Rattle.routes.specs.invariant.Ghosts.{Ghost, heads}
 use Rattle.routes.specs.invariant.Readers.{Awaits}
-use Rattle.routes.specs.invariant.Holders.{Has, Resting, Sure}
-use Rattle.routes.specs.invariant.Gathering.{Gathered, Gathers}
+use Rattle.routes.specs.invariant.Holders.{Resting}
+use Rattle.routes.specs.invariant.Gathering.{Gathers}
 use Rattle.routes.specs.invariant.Checking.{Checked, Sought, OnWay, CheckFacts}
 use Rattle.routes.proofs.table.Sound.{clean-parts}
 use Rattle.routes.proofs.table.Takes.{changed-is}
@@ -73,6 +72,7 @@ module _ (g : Ghost) (o : List ℕ) (rs : List Route) (n : Now) (j : Job) (k : �
     { resting = c .resting; ps = c .ps; awaits = c .awaits
     ; wrong = stops o (j .size) (c .ps) (c .pending) k (c .here) rs (c .passes .0) (c .passes .1) (numberOf why) e })
 
+  -- What is needed so far and for it is what all up to it want.
   need-more : j .need + pieceIn o k .len / 4 + 1 ≡ wants (take (k + 1) (c .ps))
   need-more = ap (λ z. z + pieceIn o k .len / 4 + 1) (c .need) ∙ sym (wants-next o (j .size) (c .ps) (c .pending) k (c .here) rs (c .passes .0) (c .passes .1))
 
@@ -116,6 +116,7 @@ module _ (g : Ghost) (o : List ℕ) (rs : List Route) (n : Now) (j : Job) (k : �
   takes-on Taken l u e = refuses AbsentRoute (taken-by Taken _ l u e refl)
   takes-on Never l u e = onward j (Root k) refl (c, record { clean' = l; takes = u; never = e })
 
+  -- A clean piece, by whether it puts.
   puts-on : (u : Bool) → CleanIn o k → pieceIn o k .puts ≡ u → Goes g o rs n j (decided j (cond u (Ok (passed j k (pieceIn o k .len))) (taking j k (pieceIn o k .len) (earlierIn o k))))
   puts-on true l u = let t = puts-pass o (j .size) (c .ps) (c .pending) k (c .here) rs (c .passes .0) (c .passes .1) l u in passes-on (t .0) (t .1)
   puts-on false l u = takes-on (earlierIn o k) l u refl

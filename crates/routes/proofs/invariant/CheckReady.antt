@@ -1,21 +1,21 @@
 -- Check: its registers are in their ranges, and what its turn asks may be asked.
-use mathlib.Core.Path.{_≡_, sym, ap, subst, _∙_}
-use mathlib.Core.Bool.{Bool, true}
+use mathlib.Core.Path.{_≡_, sym, subst, _∙_}
+use mathlib.Core.Bool.{Bool}
 use mathlib.Core.List.{List}
-use Prim.Native.Nat.{ℕ, zero, suc, _+_, _*_, _/_, _<_, _≤_}
+use Prim.Native.Nat.{ℕ, zero, suc, _*_, _<_, _≤_}
 use native.Mathlib.Omega.{arith}
 use lib.ListN.{length, take}
-use Rattle.words.specs.Address.{nib, place}
+use Rattle.words.specs.Address.{nib}
 use Rattle.words.proofs.Addresses.{nib-small, place-small}
 use Rattle.routes.specs.declared.update.job.Job.{Job}
 use Rattle.routes.specs.declared.update.check.Check.{Check}
 use Rattle.routes.specs.declared.update.check.Check.the-variants.{Piece as AtPiece, Root, Slot, Route as AtRoute, Reject}
 use Rattle.routes.specs.Memory.{Mem, MayTouch}
 use Rattle.routes.specs.Routes.{Route, Now}
-use Rattle.routes.specs.machine.Acts.{MayDo, PhaseReady}
+use Rattle.routes.specs.machine.Acts.{MayDo}
 use Rattle.routes.specs.machine.Checks.{AtPiece as AtPieceOk, CheckOk, checkAct, pieceIn, CheckReady}
 use Rattle.routes.specs.build.Stages.{wants}
-use Rattle.routes.specs.tree.Trees.{Tree, blockOf, count, kidsOf}
+use Rattle.routes.specs.tree.Trees.{Tree, blockOf, count}
 use Rattle.routes.specs.tree.Walks.{down}
 use Rattle.routes.specs.invariant.Ghosts.{Ghost}
 use Rattle.routes.specs.invariant.Memories.{Core}
@@ -59,6 +59,7 @@ module _ {m : Mem} {h : ℕ} {locked : Bool} {g : Ghost} {rs : List Route} {t : 
     let u : 1 ≤ uses g b = omega arith in
     (left, turn, small, used-inside core b u, rw (used-held core b u) tt, l)
 
+  -- So may a node on the way.
   way-touch : (o : List ℕ) (k d b w : ℕ) → OnWay g o k d b → w < 48 → MayTouch m p b w
   way-touch o k d b w x l = tree-touch b w (subst (λ z. 1 ≤ count z (g .tree)) (sym (x .here)) (omega (arith, count-down (blockOf node) (pieceIn o k .bits) d (g .tree), count-block node (λ z. x .real (x .here ∙ z))))) l
     where

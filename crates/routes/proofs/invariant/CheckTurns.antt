@@ -2,10 +2,9 @@
 use mathlib.Core.Path.{_≡_, refl, sym, ap, subst, _∙_}
 use mathlib.Core.Bool.{Bool, true, false}
 use mathlib.Core.List.{List, [], _∷_}
-use Prim.Native.Nat.{ℕ, _+_, _<_, _≤_}
+use Prim.Native.Nat.{ℕ}
 use native.Mathlib.Omega.{arith}
 use lib.Dec.{T}
-use lib.ListN.{length}
 use Rattle.routes.specs.declared.Answer.the-variants.{No}
 use Rattle.routes.specs.declared.Ask.{Ask}
 use Rattle.routes.specs.declared.Ask.the-variants.{Change}
@@ -19,28 +18,26 @@ use Rattle.routes.specs.declared.update.obtain.Obtain.the-variants.{Get}
 use Rattle.routes.specs.declared.update.Phase.the-variants.{Check as InCheck, Obtain as InObtain}
 use Rattle.routes.specs.declared.update.UpdateNext.{UpdateNext}
 use Rattle.routes.specs.declared.work.Work.the-variants.{Update as Updating}
-use Rattle.routes.specs.Memory.{Mem, sees, counted, Arrives, rest}
+use Rattle.routes.specs.Memory.{Mem, counted, Arrives, rest}
 use Rattle.routes.specs.Refusals.{numberOf}
-use Rattle.routes.specs.Routes.{Route, Event, Turned, Now, Under, Over, State, Run, young, limit}
-use Rattle.routes.specs.late.View.{view}
+use Rattle.routes.specs.Routes.{Route, Event, Turned, Now, Under, Over, State, Run, young}
 use Rattle.routes.specs.run.Steps.{settledAt}
 use Rattle.routes.specs.machine.Acts.{Did}
-use Rattle.routes.specs.machine.Checks.{checkAct, checkAfter, pieceIn}
+use Rattle.routes.specs.machine.Checks.{checkAct, checkAfter}
 use Rattle.routes.specs.machine.Cpus.{workOfUpdate, toldOfUpdate}
 use Rattle.routes.specs.invariant.Ghosts.{Ghost, heads}
 use Rattle.routes.specs.invariant.Memories.{Core}
-use Rattle.routes.specs.invariant.Readers.{Settled}
 use Rattle.routes.specs.invariant.Registers.{holdsIn, passedIn}
 use Rattle.routes.specs.invariant.Holders.{Resting}
 use Rattle.routes.specs.invariant.Gathering.{Gathers, ObtainFacts}
 use Rattle.routes.specs.invariant.Checking.{CheckFacts}
-use Rattle.routes.specs.invariant.Writers.{PhaseFacts, hallOf}
+use Rattle.routes.specs.invariant.Writers.{PhaseFacts}
 use Rattle.routes.specs.invariant.Inv.{Cpus, Inv}
 use Rattle.routes.proofs.late.Sees.{sees-none}
 use Rattle.routes.proofs.run.Make.{settle-no}
 use Rattle.routes.proofs.run.Steps.{now-own}
 use Rattle.routes.proofs.invariant.Alike.{alike-same, alike-settled}
-use Rattle.routes.proofs.invariant.Rely.{Leaves, leaves-same}
+use Rattle.routes.proofs.invariant.Rely.{leaves-same}
 use Rattle.routes.proofs.invariant.Steps.{lockOf, setCpu, Turn}
 use Rattle.routes.proofs.invariant.Holding.{hold-turn, core-counted, holder-facts, holder-room}
 use Rattle.routes.proofs.invariant.Kinds.{withRow, core-row, heads-none, still-none, leaves-row}
@@ -50,7 +47,7 @@ use Rattle.routes.proofs.invariant.Unlocks.{reject-parts, unlock-turn}
 use Rattle.routes.proofs.invariant.CheckNext.{Goes, onward, obtains, rejects, Refused, Loads, check-next}
 
 -- memory that was asked, or was not
-abbrev pub asked : Bool → Mem → Mem
+abbrev asked : Bool → Mem → Mem
 asked true m = counted m
 asked false m = m
 
@@ -59,15 +56,17 @@ core-asked : {m : Mem} {h : ℕ} {locked : Bool} {g : Ghost} {rs : List Route} {
 core-asked true o = core-counted o
 core-asked false o = o
 
--- Words, late stores and processors are the same.
+-- Words are the same.
 val-asked : (b : Bool) (m : Mem) → asked b m .val ≡ m .val
 val-asked true m = refl
 val-asked false m = refl
 
+-- So are late stores.
 late-asked : (b : Bool) (m : Mem) → asked b m .late ≡ m .late
 late-asked true m = refl
 late-asked false m = refl
 
+-- So is the number of processors.
 cpus-asked : (b : Bool) (m : Mem) → asked b m .cpus ≡ m .cpus
 cpus-asked true m = refl
 cpus-asked false m = refl

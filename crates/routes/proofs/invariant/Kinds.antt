@@ -1,16 +1,16 @@
 -- The kind of late row is changed, and nothing else.
-use mathlib.Core.Path.{_≡_, refl, ap, subst, _∙_}
+use mathlib.Core.Path.{_≡_, refl, subst}
 use mathlib.Core.Bool.{Bool}
 use mathlib.Core.List.{List, []}
 use mathlib.Core.Logic.{inl}
-use Prim.Native.Nat.{ℕ, _≤_}
+use Prim.Native.Nat.{ℕ}
 use native.Mathlib.Omega.{arith}
 use Rattle.routes.specs.Memory.{Mem}
 use Rattle.routes.specs.Routes.{Route}
 use Rattle.routes.specs.late.Rows.{AllRow}
 use Rattle.routes.specs.late.View.{view}
 use Rattle.routes.specs.invariant.Ghosts.{Ghost, Row, still, heads}
-use Rattle.routes.specs.invariant.Memories.{RowOk, HeadStore, Sight, Core}
+use Rattle.routes.specs.invariant.Memories.{RowOk, Sight, Core}
 use Rattle.routes.proofs.invariant.Rely.{Leaves}
 
 -- ghosts with another kind of late row

@@ -1,8 +1,8 @@
 -- The turns in which the lock is got or given up, with what arrives behind them.
-use mathlib.Core.Path.{_≡_, refl, sym, ap, subst, _∙_}
+use mathlib.Core.Path.{_≡_, ap, _∙_}
 use mathlib.Core.Bool.{true, false, cond}
 use mathlib.Core.List.{List, _∷_}
-use Prim.Native.Nat.{ℕ, suc, _+_, _<_}
+use Prim.Native.Nat.{ℕ, suc, _<_}
 use lib.Dec.{T}
 use Rattle.routes.specs.declared.Answer.the-variants.{Done, Full as FullAnswer}
 use Rattle.routes.specs.declared.update.job.Job.{Job}

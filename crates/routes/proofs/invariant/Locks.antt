@@ -1,12 +1,11 @@
 -- The lock is got.
 use mathlib.Core.Path.{_≡_, refl, sym, ap, subst, _∙_}
-use mathlib.Core.Bool.{Bool, true, false, cond, _&&_}
+use mathlib.Core.Bool.{true, false, cond, _&&_}
 use mathlib.Core.List.{List, [], _∷_}
-use Prim.Native.Nat.{ℕ, zero, suc, _+_, _<_, _≤_}
+use Prim.Native.Nat.{ℕ, suc, _+_, _<_}
 use native.Mathlib.Omega.{arith}
 use lib.Dec.{eqb, T}
 use Rattle.std.proofs.shelf.Tests.{true≢false, eq-eqb}
-use Rattle.routes.specs.declared.Piece.{Piece}
 use Rattle.routes.specs.declared.update.job.Job.{Job}
 use Rattle.routes.specs.declared.update.check.Check.the-variants.{Piece as AtPiece}
 use Rattle.routes.specs.declared.update.Phase.{Phase}
@@ -14,7 +13,7 @@ use Rattle.routes.specs.declared.update.Phase.the-variants.{Refuse, Lock as At
 use Rattle.routes.specs.declared.work.Work.{Work}
 use Rattle.routes.specs.declared.work.Work.the-variants.{Idle, Lookup as Looking, Update as Updating}
 use Rattle.routes.specs.Memory.{Mem, counted, swapped}
-use Rattle.routes.specs.Routes.{Route, Event, Turned, Now, State, Run, Table, pieces, leads, turns, young, older, mustWait, leader, led}
+use Rattle.routes.specs.Routes.{Route, Event, Turned, Now, State, Run, pieces, leads, young, older, mustWait, leader, led}
 use Rattle.routes.specs.late.Steps.{setWord}
 use Rattle.routes.specs.late.View.{view}
 use Rattle.routes.specs.run.Nows.{isChange}
@@ -23,7 +22,7 @@ use Rattle.routes.specs.build.Stages.{wants}
 use Rattle.routes.specs.invariant.Ghosts.{Ghost, still}
 use Rattle.routes.specs.invariant.Readers.{Awaits, Updates, Does}
 use Rattle.routes.specs.invariant.Registers.{holds, holdsIn, announced, loaded, passed, passedIn}
-use Rattle.routes.specs.invariant.Holders.{Has, Resting}
+use Rattle.routes.specs.invariant.Holders.{Resting}
 use Rattle.routes.specs.invariant.Checking.{Checked, CheckFacts}
 use Rattle.routes.specs.invariant.Writers.{Hall, PhaseFacts, Writer, hallOf}
 use Rattle.routes.specs.invariant.Inv.{Lock, Cpus, Inv}
@@ -36,7 +35,7 @@ use Rattle.routes.proofs.invariant.Kinds.{withRow, still-none}
 use Rattle.routes.proofs.invariant.Steps.{setCpu, Turn, turn-on, steps-inv}
 use Rattle.routes.proofs.invariant.WriterWord.{writer-core, writer-leaves}
 
--- Where the lock was had last and is not held, nothing is left over.
+-- A phase without the lock leaves nothing over.
 phase-resting : (v : ℕ → ℕ → ℕ) (hall : Hall) (g : Ghost) (o : List ℕ) (rs : List Route) (n : Now) (j : Job) (s : Phase) → holdsIn s ≡ false → PhaseFacts v hall g o rs n j s → Resting g
 unfolding holdsIn PhaseFacts
 phase-resting v hall g o rs n j Refuse h w = w
@@ -51,6 +50,7 @@ phase-resting v hall g o rs n j (Retire s) h w = absurd (true≢false h)
 phase-resting v hall g o rs n j (Reclaim s) h w = absurd (true≢false h)
 phase-resting v hall g o rs n j (Finish s) h w = absurd (true≢false h)
 
+-- So it is of all registers without the lock.
 writer-resting : (v : ℕ → ℕ → ℕ) (hall : Hall) (g : Ghost) (o : List ℕ) (rs : List Route) (n : Now) (work : Work) → holds work ≡ false → Writer v hall g o rs n work → Resting g
 unfolding holds Writer
 writer-resting v hall g o rs n Idle h w = w
@@ -71,6 +71,7 @@ module _ {m : Mem} {k : Lock} {g : Ghost} {trail : ℕ → List ℕ} {s : State}
   free-late = only-none (k .who) m (i .core .others) (still-none m (k .who) g _ (free-resting .has .row) (i .core .row))
 
   module _ {p : ℕ} (j : Job) (e : c .work p ≡ Updating j AtLock) (small : p < m .cpus) where
+    -- What p does.
     does-lock : Does (m .val) (Updating j AtLock) (c .own p) (trail p) (s .now' p)
     does-lock = subst (λ w. Does (m .val) w (c .own p) (trail p) (s .now' p)) e (i .readers p .does)
 
@@ -81,6 +82,7 @@ module _ {m : Mem} {k : Lock} {g : Ghost} {trail : ℕ → List ℕ} {s : State}
       swap-none p 0 0 0 (p + 1) m (free-late p) ∙ rw z
 
     module _ {cpus blocks : ℕ} {es : List Event} (r : Run cpus blocks es s) (y : T (young (s .now' p))) where
+      -- the state after it
       abbrev after : State
       after = turnedAt cpus p (led p s)
 

@@ -39,6 +39,7 @@ take-all (suc k) [] h = absurd (omega arith)
 take-all zero (p ∷ ps) h = absurd (omega arith)
 take-all (suc k) (p ∷ ps) h = ap (λ z. p ∷ z) (take-all k ps (omega arith))
 
+-- The first k are k.
 pub take-length : (k : ℕ) (ps : List Piece) → k ≤ length ps → length (take k ps) ≡ k
 take-length zero ps h = refl
 take-length (suc k) [] h = absurd (omega arith)
@@ -62,9 +63,11 @@ noted-first own i (suc k) (p ∷ ps) w h =
 
 -- Piece k is in hand: those before it make qs of rs.
 module _ (o : List ℕ) (size : ℕ) (ps : List Piece) (w : Pending o size ps) (k : ℕ) (h : k < size) (rs qs : List Route) (e : pieces (take k ps) (Table rs) ≡ Table qs) where
+  -- the piece in hand
   abbrev pub inHand : Piece
   inHand = getD ps k blank
 
+  -- There is such a piece.
   inside : k < length ps
   inside = omega (arith, w .length')
 
@@ -74,6 +77,7 @@ module _ (o : List ℕ) (size : ℕ) (ps : List Piece) (w : Pending o size ps) (
     changed-is ps rs (omega (arith, w .length', w .some)) (omega (arith, w .length', w .few))
       ∙ ap (λ z. pieces z (Table rs)) (split-at k ps inside) ∙ pieces-stop (take k ps) (drop (suc k) ps) inHand rs qs why e x
 
+  -- The pieces up to it are those before it and itself.
   next : take (k + 1) ps ≡ take k ps ++ (inHand ∷ [])
   next = let z : k + 1 ≡ suc k = omega arith in ap (λ i. take i ps) z ∙ take-next k ps inside
 
@@ -81,6 +85,7 @@ module _ (o : List ℕ) (size : ℕ) (ps : List Piece) (w : Pending o size ps) (
   pub goes : (ts : List Route) → piece inHand qs ≡ Table ts → pieces (take (k + 1) ps) (Table rs) ≡ Table ts
   goes ts x = ap (λ z. pieces z (Table rs)) next ∙ pieces-more (take k ps) inHand rs qs ts e x
 
+  -- It wants the levels of its way.
   pub wants-next : wants (take (k + 1) ps) ≡ wants (take k ps) + pieceIn o k .len / 4 + 1
   wants-next = ap wants next ∙ wants-more (take k ps) inHand ∙ ap (λ z. wants (take k ps) + z .len / 4 + 1) (sym (w .words k h))
 

@@ -1,5 +1,5 @@
 -- Where the new root is not late, arriving changes neither ghosts nor state.
-use mathlib.Core.Path.{_≡_, refl, ap, _∙_}
+use mathlib.Core.Path.{_≡_, refl}
 use mathlib.Core.Bool.{true}
 use mathlib.Core.List.{List, [], _∷_}
 use mathlib.Core.Logic.{inl, inr}
@@ -13,6 +13,7 @@ use Rattle.routes.proofs.late.Arriving.{oldest-none}
 use Rattle.routes.proofs.invariant.Calm.{plain, calm-inv}
 
 module _ {k : Lock} {g : Ghost} {trail : ℕ → List ℕ} {s : State} {t : ℕ} {c : Cpus} (p : plain (g .row) ≡ true) where
+  -- The oldest store of the one who may have any.
   own-arrives : {m : Mem} (row : List Store) → m .late (k .who) ≡ row → Inv m k g trail s t c → Inv (oldest (k .who) row m) k g trail s t c
   unfolding oldest
   own-arrives [] e i = i

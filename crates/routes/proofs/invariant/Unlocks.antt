@@ -1,8 +1,8 @@
 -- The lock is given up in the turn in which an update is told.
-use mathlib.Core.Path.{_≡_, refl, sym, ap, subst, _∙_}
+use mathlib.Core.Path.{_≡_, refl, ap, subst, _∙_}
 use mathlib.Core.Bool.{true, false}
 use mathlib.Core.List.{List, [], _∷_}
-use Prim.Native.Nat.{ℕ, suc, _+_, _-_, _<_, _≤_}
+use Prim.Native.Nat.{ℕ, _+_, _-_}
 use native.Mathlib.Omega.{arith}
 use lib.Dec.{eqb, T}
 use Rattle.std.proofs.shelf.Tests.{eq-eqb}
@@ -24,7 +24,7 @@ use Rattle.routes.specs.Routes.{Route, Event, Told, Turned, Now, State, Run, y
 use Rattle.routes.specs.counts.Counts.{seg}
 use Rattle.routes.specs.late.Steps.{setWord}
 use Rattle.routes.specs.run.Steps.{turnedAt}
-use Rattle.routes.specs.invariant.Ghosts.{Ghost, still}
+use Rattle.routes.specs.invariant.Ghosts.{Ghost}
 use Rattle.routes.specs.invariant.Readers.{Settled, Does}
 use Rattle.routes.specs.invariant.Registers.{holds, announced, loaded, passed}
 use Rattle.routes.specs.invariant.Checking.{CheckFacts}
@@ -37,7 +37,6 @@ use Rattle.routes.proofs.run.Leads.{one-told-own}
 use Rattle.routes.proofs.run.Steps.{now-own, now-other}
 use Rattle.routes.proofs.invariant.Alike.{alike-same, alike-hidden}
 use Rattle.routes.proofs.invariant.Calm.{plain}
-use Rattle.routes.proofs.invariant.Kinds.{withRow}
 use Rattle.routes.proofs.invariant.PlainArrives.{plain-arrives}
 use Rattle.routes.proofs.invariant.Steps.{lockOf, setCpu, Turn, turn-told, steps-inv, holds-silent}
 use Rattle.routes.proofs.invariant.Holding.{holder-facts, holder-holds, others-free, holder-small, holder-does, holder-room}

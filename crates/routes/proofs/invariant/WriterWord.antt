@@ -22,12 +22,15 @@ use Rattle.routes.proofs.invariant.Kinds.{withRow, sight-row}
 use Rattle.routes.proofs.invariant.Rely.{Leaves}
 
 module _ {m : Mem} {h : ℕ} {locked : Bool} {g : Ghost} {rs : List Route} {t : ℕ} (o : Core m h locked g rs t) (none : m .late h ≡ []) (x : ℕ) where
+  -- the memory then
   abbrev written : Mem
   written = counted (setWord 0 0 x m)
 
+  -- All other words stay.
   kept : (b w : ℕ) → ((b ≡ 0) × (w ≡ 0) → ⊥) → written .val b w ≡ m .val b w
   kept b w n = setVal-miss 0 0 x (m .val) b w n
 
+  -- Nobody has late stores.
   nobody-late : (q : ℕ) → m .late q ≡ []
   nobody-late = only-none h m (o .others) none
 

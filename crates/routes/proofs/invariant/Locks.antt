@@ -5,15 +5,13 @@ use mathlib.Core.List.{List, [], _∷_}
 use Prim.Native.Nat.{ℕ, suc, _+_, _<_}
 use native.Mathlib.Omega.{arith}
 use lib.Dec.{eqb, T}
-use Rattle.std.proofs.shelf.Tests.{true≢false, eq-eqb}
+use Rattle.std.proofs.shelf.Tests.{eq-eqb}
 use Rattle.routes.specs.declared.update.job.Job.{Job}
 use Rattle.routes.specs.declared.update.check.Check.the-variants.{Piece as AtPiece}
-use Rattle.routes.specs.declared.update.Phase.{Phase}
-use Rattle.routes.specs.declared.update.Phase.the-variants.{Refuse, Lock as AtLock, Check, Obtain, Recycle, Scan, Build, Publish, Retire, Reclaim, Finish}
-use Rattle.routes.specs.declared.work.Work.{Work}
-use Rattle.routes.specs.declared.work.Work.the-variants.{Idle, Lookup as Looking, Update as Updating}
+use Rattle.routes.specs.declared.update.Phase.the-variants.{Lock as AtLock, Check}
+use Rattle.routes.specs.declared.work.Work.the-variants.{Update as Updating}
 use Rattle.routes.specs.Memory.{Mem, counted, swapped}
-use Rattle.routes.specs.Routes.{Route, Event, Turned, Now, State, Run, pieces, leads, young, older, mustWait, leader, led}
+use Rattle.routes.specs.Routes.{Event, Turned, State, Run, pieces, leads, young, older, mustWait, leader, led}
 use Rattle.routes.specs.late.Steps.{setWord}
 use Rattle.routes.specs.late.View.{view}
 use Rattle.routes.specs.run.Nows.{isChange}
@@ -24,38 +22,16 @@ use Rattle.routes.specs.invariant.Readers.{Awaits, Updates, Does}
 use Rattle.routes.specs.invariant.Registers.{holds, holdsIn, announced, loaded, passed, passedIn}
 use Rattle.routes.specs.invariant.Holders.{Resting}
 use Rattle.routes.specs.invariant.Checking.{Checked, CheckFacts}
-use Rattle.routes.specs.invariant.Writers.{Hall, PhaseFacts, Writer, hallOf}
+use Rattle.routes.specs.invariant.Writers.{PhaseFacts, Writer, hallOf}
 use Rattle.routes.specs.invariant.Inv.{Lock, Cpus, Inv}
 use Rattle.routes.proofs.late.Fence.{swap-none}
-use Rattle.routes.proofs.late.Only.{only-none}
 use Rattle.routes.proofs.run.Leads.{no-leader, one-led}
 use Rattle.routes.proofs.run.Steps.{now-own, now-other, turned-kind}
 use Rattle.routes.proofs.invariant.Alike.{hidden-led, saying-older}
-use Rattle.routes.proofs.invariant.Kinds.{withRow, still-none}
+use Rattle.routes.proofs.invariant.Kinds.{withRow}
+use Rattle.routes.proofs.invariant.Local.{writer-rests, quiet-late}
 use Rattle.routes.proofs.invariant.Steps.{setCpu, Turn, turn-on, steps-inv}
 use Rattle.routes.proofs.invariant.WriterWord.{writer-core, writer-leaves}
-
--- A phase without the lock leaves nothing over.
-phase-resting : (v : ℕ → ℕ → ℕ) (hall : Hall) (g : Ghost) (o : List ℕ) (rs : List Route) (n : Now) (j : Job) (s : Phase) → holdsIn s ≡ false → PhaseFacts v hall g o rs n j s → Resting g
-unfolding holdsIn PhaseFacts
-phase-resting v hall g o rs n j Refuse h w = w
-phase-resting v hall g o rs n j AtLock h w = w
-phase-resting v hall g o rs n j (Check s) h w = absurd (true≢false h)
-phase-resting v hall g o rs n j (Obtain s) h w = absurd (true≢false h)
-phase-resting v hall g o rs n j (Recycle s) h w = absurd (true≢false h)
-phase-resting v hall g o rs n j (Scan s) h w = absurd (true≢false h)
-phase-resting v hall g o rs n j (Build s) h w = absurd (true≢false h)
-phase-resting v hall g o rs n j (Publish s) h w = absurd (true≢false h)
-phase-resting v hall g o rs n j (Retire s) h w = absurd (true≢false h)
-phase-resting v hall g o rs n j (Reclaim s) h w = absurd (true≢false h)
-phase-resting v hall g o rs n j (Finish s) h w = absurd (true≢false h)
-
--- So it is of all registers without the lock.
-writer-resting : (v : ℕ → ℕ → ℕ) (hall : Hall) (g : Ghost) (o : List ℕ) (rs : List Route) (n : Now) (work : Work) → holds work ≡ false → Writer v hall g o rs n work → Resting g
-unfolding holds Writer
-writer-resting v hall g o rs n Idle h w = w
-writer-resting v hall g o rs n (Looking l) h w = w
-writer-resting v hall g o rs n (Updating j s) h w = phase-resting v hall g o rs n j s h w
 
 module _ {m : Mem} {k : Lock} {g : Ghost} {trail : ℕ → List ℕ} {s : State} {t : ℕ} {c : Cpus} (i : Inv m k g trail s t c) (free : k .held ≡ false) where
   -- Nobody holds the lock.
@@ -64,11 +40,11 @@ module _ {m : Mem} {k : Lock} {g : Ghost} {trail : ℕ → List ℕ} {s : State}
 
   -- Nothing is left over.
   pub free-resting : Resting g
-  free-resting = writer-resting (view (k .who) m) (hallOf m) g (c .own (k .who)) (s .table) (s .now' (k .who)) (c .work (k .who)) (nobody-holds (k .who)) (i .writer)
+  free-resting = writer-rests (view (k .who) m) (hallOf m) g (c .own (k .who)) (s .table) (s .now' (k .who)) (c .work (k .who)) (nobody-holds (k .who)) (i .writer)
 
   -- Nothing is late.
   pub free-late : (q : ℕ) → m .late q ≡ []
-  free-late = only-none (k .who) m (i .core .others) (still-none m (k .who) g _ (free-resting .has .row) (i .core .row))
+  free-late q = quiet-late q i (nobody-holds q)
 
   module _ {p : ℕ} (j : Job) (e : c .work p ≡ Updating j AtLock) (small : p < m .cpus) where
     -- What p does.

@@ -1,2 +1,4 @@
+pub mod Rely
+pub mod Apart
 pub mod Chains
 pub mod HeadRows

@@ -4,3 +4,9 @@ pub mod Chains
 pub mod HeadRows
 pub mod FreshBlocks
 pub mod HeadCores
+pub mod HeadSights
+pub mod HolderSteps
+pub mod Needs
+pub mod Gatherings
+pub mod Obtains
+pub mod Recycles

@@ -1,0 +1,51 @@
+-- One block more is there: on to the next, or to Build.
+use mathlib.Core.Path.{_≡_, refl, sym, _∙_}
+use mathlib.Core.Bool.{true, false}
+use mathlib.Core.List.{List, []}
+use mathlib.Core.Logic.{inl, inr}
+use Prim.Native.Nat.{ℕ, _+_, _<_, _≤_}
+use native.Mathlib.Omega.{arith}
+use lib.Dec.{ltb}
+use Rattle.std.proofs.shelf.Tests.{cases-lt, lt-ltb, le-ltb}
+use Rattle.routes.specs.declared.update.job.Job.{Job}
+use Rattle.routes.specs.declared.update.build.Build.the-variants.{Root}
+use Rattle.routes.specs.declared.update.obtain.Obtain.the-variants.{Get, Undo, Full}
+use Rattle.routes.specs.declared.update.Phase.the-variants.{Build as InBuild, Obtain as InObtain}
+use Rattle.routes.specs.declared.work.Work.the-variants.{Update as Updating}
+use Rattle.routes.specs.Memory.{Mem}
+use Rattle.routes.specs.Routes.{Route, Now}
+use Rattle.routes.specs.machine.Cpus.{workOfUpdate}
+use Rattle.routes.specs.machine.Obtains.{gathering, undoing}
+use Rattle.routes.specs.invariant.Ghosts.{Ghost, calm}
+use Rattle.routes.specs.invariant.Memories.{Core}
+use Rattle.routes.specs.invariant.Gathering.{Gathered, Undoes, ObtainFacts}
+use Rattle.routes.specs.invariant.Building.{BuildFacts}
+use Rattle.routes.specs.invariant.Registers.{holds, holdsIn, passed, passedIn}
+use Rattle.routes.specs.invariant.Writers.{Writer, PhaseFacts}
+use Rattle.routes.specs.invariant.Inv.{Lock}
+use Rattle.routes.proofs.invariant.Rely.{Leaves}
+use Rattle.routes.proofs.invariant.HeadCores.{calmed, core-calm}
+use Rattle.routes.proofs.invariant.HolderSteps.{HolderStep}
+
+module _ {m : Mem} {k : Lock} {g : Ghost} {trail : ℕ → List ℕ} {rs : List Route} {t : ℕ} {n : Now} {m' : Mem} {own : List ℕ} (g' : Ghost) (j : Job)
+         (core : Core m' (k .who) (k .held) g' rs t) (leaves : (q : ℕ) → Leaves m g m' g' (trail q) q) where
+  -- Where one more is wanted it goes on, else it builds, and any calm store may be late.
+  pub gathers-on : Gathered g' own rs n j → g' .torn ≡ false → HolderStep m k g trail rs t n m' own (workOfUpdate (gathering j))
+  unfolding Writer PhaseFacts ObtainFacts BuildFacts holds holdsIn passed passedIn
+  gathers-on f whole = elim (cases-lt (j .got) (j .need)) [
+        inl l ↦ rw (lt-ltb (j .got) (j .need) l) (record
+          { ghost = g'; core = core; leaves = leaves; facts = record { gathered = f; whole = whole; wants' = l }; scanned = λ q b i. absurd (omega arith); holding = refl })
+      | inr l ↦ rw (le-ltb (j .got) (j .need) l) (record
+          { ghost = calmed g'; core = core-calm core (f .has .row)
+          ; leaves = λ q. (let a = leaves q in record { epochs = a .epochs; active = a .active; words = a .words; safe = a .safe; clear = a .clear })
+          ; facts = (f .ps, f .qs, record { has = record { row = refl; loose = f .has .loose; fresh = f .has .fresh }; whole = whole; awaits = f .awaits; sure = f .sure; all = omega (arith, f .enough) }, f .used, f .retired)
+          ; scanned = λ q b i. absurd (omega arith); holding = refl }) ]
+
+  -- What was got goes back, one by one.
+  pub undoes-on : Undoes g' own n j → HolderStep m k g trail rs t n m' own (workOfUpdate (undoing j))
+  unfolding Writer PhaseFacts ObtainFacts holds holdsIn passed passedIn
+  undoes-on f = elim (cases-lt 0 (j .got)) [
+        inl l ↦ rw (lt-ltb 0 (j .got) l) (record
+          { ghost = g'; core = core; leaves = leaves; facts = (f, l); scanned = λ q b i. absurd (omega arith); holding = refl })
+      | inr l ↦ rw (le-ltb 0 (j .got) l) (record
+          { ghost = g'; core = core; leaves = leaves; facts = (f, omega arith); scanned = λ q b i. absurd (omega arith); holding = refl }) ]

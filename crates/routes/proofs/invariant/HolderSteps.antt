@@ -1,0 +1,104 @@
+-- A step of the lock's holder while its late stores go to LIMBO_HEAD and LIMBO_TAIL: what is shown of it, whatever was seen.
+use mathlib.Core.Path.{_≡_, refl, sym, ap, subst, _∙_}
+use mathlib.Core.Bool.{Bool, true, false}
+use mathlib.Core.List.{List, []}
+use mathlib.Core.Logic.{_⊎_, inl, inr}
+use Prim.Native.Nat.{ℕ, suc, _+_, _<_, _≤_}
+use native.Mathlib.Omega.{arith}
+use Rattle.std.proofs.shelf.Tests.{cases-lt}
+use Rattle.routes.specs.declared.lookup.Lookup.the-variants.{Epoch, Announce, Root, Node, Leave}
+use Rattle.routes.specs.declared.update.job.Job.{Job}
+use Rattle.routes.specs.declared.update.Phase.{Phase}
+use Rattle.routes.specs.declared.work.Work.{Work}
+use Rattle.routes.specs.declared.work.Work.the-variants.{Idle, Lookup as Looking, Update as Updating}
+use Rattle.routes.specs.Memory.{Mem, counted}
+use Rattle.routes.specs.Routes.{Route, Now, State}
+use Rattle.routes.specs.counts.Counts.{cnt}
+use Rattle.routes.specs.late.View.{view}
+use Rattle.routes.specs.invariant.Ghosts.{Ghost, heads, limbo}
+use Rattle.routes.specs.invariant.Memories.{Core}
+use Rattle.routes.specs.invariant.Readers.{LooksUp, Does}
+use Rattle.routes.specs.invariant.Registers.{loaded, loadedIn, announced, announcedIn, holds, passed, passedBy}
+use Rattle.routes.specs.invariant.Writers.{Writer, PhaseFacts, hallOf}
+use Rattle.routes.specs.invariant.Inv.{Inv, Lock, Cpus}
+use Rattle.routes.proofs.invariant.Rely.{Leaves, leaves-same}
+use Rattle.routes.proofs.invariant.HeadRows.{heads-row, row-heads}
+
+-- what is on a trail that this scan has passed, and is retired, was retired at its limit or later
+abbrev pub Scanned : ℕ → Ghost → (ℕ → List ℕ) → Work → Type 0
+Scanned cpus g trail work = (q b : ℕ) → q < passed cpus work .many → 1 ≤ cnt b (trail q) → 1 ≤ limbo g b → passed cpus work .limit ≤ g .stamps b
+
+-- after it the memory is m', and the holder has these own words and registers; n is its change then
+pub record HolderStep (m : Mem) (k : Lock) (g : Ghost) (trail : ℕ → List ℕ) (rs : List Route) (t : ℕ) (n : Now) (m' : Mem) (own : List ℕ) (work : Work) : Type 0 where
+  pub ghost : Ghost
+  pub core : Core m' (k .who) (k .held) ghost rs t
+  pub leaves : (q : ℕ) → Leaves m g m' ghost (trail q) q
+  pub facts : Writer (view (k .who) m') (hallOf m') ghost own rs n work
+  pub scanned : Scanned (m .cpus) ghost trail work
+  pub holding : holds work ≡ true
+
+-- A lookup that has announced nothing has no trail.
+pub no-trail : (val : ℕ → ℕ → ℕ) (work : Work) (o trail : List ℕ) (n : Now) → announced work ≡ 0 → Does val work o trail n → trail ≡ []
+unfolding announced announcedIn Does LooksUp
+no-trail val Idle o trail n e d = d .0
+no-trail val (Looking (Epoch a)) o trail n e d = d .0
+no-trail val (Looking (Announce a x)) o trail n e d = d .0
+no-trail val (Looking (Root a x)) o trail n e d = d .0
+no-trail val (Looking (Node a x l b best)) o trail n e d = absurd (omega arith)
+no-trail val (Looking (Leave x best)) o trail n e d = d .0
+no-trail val (Updating j s) o trail n e d = d .0
+
+-- What is announced was loaded.
+pub announced-loaded : (work : Work) → announced work ≤ loaded work
+unfolding announced announcedIn loaded loadedIn
+announced-loaded Idle = omega arith
+announced-loaded (Looking (Epoch a)) = omega arith
+announced-loaded (Looking (Announce a x)) = omega arith
+announced-loaded (Looking (Root a x)) = omega arith
+announced-loaded (Looking (Node a x l b best)) = omega arith
+announced-loaded (Looking (Leave x best)) = omega arith
+announced-loaded (Updating j s) = omega arith
+
+-- Memory that was asked for something is known as before.
+pub core-counted : {m : Mem} {h : ℕ} {l : Bool} {g : Ghost} {rs : List Route} {t : ℕ} → Core m h l g rs t → g .row ≡ heads → Core (counted m) h l g rs t
+unfolding view
+core-counted {m} {h} {l} {g} {rs} {t} o e = record
+  { sizes = record { someone = o .sizes .someone; cpus = o .sizes .cpus; blocks = o .sizes .blocks }
+  ; others = o .others; row = row-heads (counted m) h g _ e (heads-row m h l g rs t o e); writer = o .writer; root = o .root; repr = o .repr; good = o .good
+  ; blocks = o .blocks; inside = o .inside; sight = o .sight }
+
+module _ {m : Mem} {k : Lock} {g : Ghost} {trail : ℕ → List ℕ} {s : State} {t : ℕ} {c : Cpus} (i : Inv m k g trail s t c) where
+  -- What the holder's registers say.
+  pub facts-at : (j : Job) (p : Phase) → c .work (k .who) ≡ Updating j p → PhaseFacts (view (k .who) m) (hallOf m) g (c .own (k .who)) (s .table) (s .now' (k .who)) j p
+  unfolding Writer
+  facts-at j p e = subst (λ w. Writer (view (k .who) m) (hallOf m) g (c .own (k .who)) (s .table) (s .now' (k .who)) w) e (i .writer)
+
+  -- What its scan has passed.
+  pub scanned-at : (work : Work) → c .work (k .who) ≡ work → Scanned (m .cpus) g trail work
+  scanned-at work e = subst (Scanned (m .cpus) g trail) e (i .scanned)
+
+  -- Who has announced nothing, or an epoch not before the limit, will touch nothing that was retired before the limit.
+  pub stand-past : (q limit b : ℕ) → (announced (c .work q) ≡ 0) ⊎ (limit < announced (c .work q)) → 1 ≤ cnt b (trail q) → 1 ≤ limbo g b → limit ≤ g .stamps b
+  unfolding cnt
+  stand-past q limit b w a f = elim w [
+        inl d ↦ absurd (let n : trail q ≡ [] = no-trail _ (c .work q) _ (trail q) _ d (i .readers q .does) in let z : 1 ≤ cnt b [] = rw n at a in omega arith)
+      | inr d ↦ omega (arith, announced-loaded (c .work q), i .readers q .clear b a f) ]
+
+  -- Past the last processor there are no trails.
+  pub outside-trail : (q : ℕ) → m .cpus ≤ q → trail q ≡ []
+  unfolding announced
+  outside-trail q l = no-trail _ (c .work q) _ (trail q) _ (ap announced (i .outside q l)) (i .readers q .does)
+
+  -- After a whole scan nothing that was retired before its limit is on a trail.
+  pub off-trail : (work : Work) (limit b : ℕ) → c .work (k .who) ≡ work → passed (m .cpus) work ≡ passedBy (m .cpus) limit → 1 ≤ limbo g b → g .stamps b < limit → (q : ℕ) → 1 ≤ cnt b (trail q) → ⊥
+  unfolding cnt
+  off-trail work limit b e whole f l q a = elim (cases-lt q (m .cpus)) [
+        inl small ↦ (let z : q < passed (m .cpus) work .many → limit ≤ g .stamps b = subst (λ p. q < passed (m .cpus) work .many → p .limit ≤ g .stamps b) whole (λ y. scanned-at work e q b y a f) in
+            let y : q < passed (m .cpus) work .many = subst (λ p. q < p .many) (sym whole) small in omega (arith, z y))
+      | inr large ↦ (let z : 1 ≤ cnt b [] = rw (outside-trail q large) at a in omega arith) ]
+
+  -- A load, by which nothing changes but registers.
+  pub loads : (n : Now) (own : List ℕ) (work : Work) → g .row ≡ heads → Writer (view (k .who) m) (hallOf m) g own (s .table) n work → Scanned (m .cpus) g trail work → holds work ≡ true →
+      HolderStep m k g trail (s .table) t n (counted m) own work
+  unfolding view
+  loads n own work e f z h = record { ghost = g; core = core-counted (i .core) e; leaves = λ q. leaves-same g (trail q) q refl; facts = f; scanned = z; holding = h }

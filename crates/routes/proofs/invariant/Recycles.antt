@@ -1,0 +1,198 @@
+-- The turns of Recycle: the oldest retired node becomes a fresh block, or there is none and the update is told full.
+use mathlib.Core.Path.{_≡_, refl, sym, ap, subst, _∙_}
+use mathlib.Core.Bool.{Bool, true, false}
+use mathlib.Core.List.{List, [], _∷_}
+use mathlib.Core.Logic.{inl, inr}
+use Prim.Native.Nat.{ℕ, suc, _+_, _^_, _<_, _≤_}
+use native.Mathlib.Omega.{arith}
+use lib.Dec.{eqb}
+use lib.ListN.{length, set}
+use Rattle.std.proofs.shelf.Ways.{tells, eqb-tells}
+use Rattle.std.proofs.shelf.Tests.{eq-eqb, ne-eqb, true≢false}
+use Rattle.words.specs.Slots.{childOf}
+use Rattle.words.proofs.Packing.{child-same}
+use Rattle.routes.specs.declared.Answer.the-variants.{Full as FullAnswer}
+use Rattle.routes.specs.declared.update.job.Job.{Job}
+use Rattle.routes.specs.declared.update.recycle.Recycle.the-variants.{Head, RetiredAt, Next, SetHead, SetTail}
+use Rattle.routes.specs.declared.update.scan.GracePeriod.{GracePeriod}
+use Rattle.routes.specs.declared.update.scan.Scan.the-variants.{ForNode}
+use Rattle.routes.specs.declared.update.Phase.the-variants.{Recycle as InRecycle, Scan as InScan}
+use Rattle.routes.specs.declared.work.Work.the-variants.{Update as Updating}
+use Rattle.routes.specs.Memory.{Mem, sees, counted, stored}
+use Rattle.routes.specs.Routes.{Now, State, tooMuch}
+use Rattle.routes.specs.counts.Counts.{bit, cnt}
+use Rattle.routes.specs.late.View.{view}
+use Rattle.routes.specs.machine.Cpus.{workOfUpdate}
+use Rattle.routes.specs.machine.Jobs.{having}
+use Rattle.routes.specs.machine.Obtains.{undoing}
+use Rattle.routes.specs.machine.Recycles.{recycleAfter, recycleWords, oldest, unlinked}
+use Rattle.routes.specs.invariant.Ghosts.{Ghost, heads, limbo}
+use Rattle.routes.specs.invariant.Memories.{Chain, Core}
+use Rattle.routes.specs.invariant.Readers.{Settled}
+use Rattle.routes.specs.invariant.Holders.{Oldest, AllUsed, gotBlocks}
+use Rattle.routes.specs.invariant.Gathering.{Gathered, Gathers, RecycleFacts, Stands}
+use Rattle.routes.specs.invariant.Registers.{holds, holdsIn, passed, passedIn, passedRecycle, passedScan}
+use Rattle.routes.specs.invariant.Writers.{Writer, PhaseFacts, ScanFacts, hallOf}
+use Rattle.routes.specs.invariant.Inv.{Inv, Lock, Cpus}
+use Rattle.routes.proofs.late.View.{open-block, view-open}
+use Rattle.routes.proofs.invariant.Rely.{Leaves, leaves-same}
+use Rattle.routes.proofs.invariant.Apart.{solid, used-small}
+use Rattle.routes.proofs.invariant.Chains.{chain-first, chain-rest, chain-none}
+use Rattle.routes.proofs.invariant.HeadRows.{HeadsRow, heads-row}
+use Rattle.routes.proofs.invariant.HeadCores.{regroup, core-set, leaves-regroup}
+use Rattle.routes.proofs.invariant.HeadSights.{sight-head, sight-tail, last-kept}
+use Rattle.routes.proofs.invariant.FreshBlocks.{more, got-more, pending-more}
+use Rattle.routes.proofs.invariant.HolderSteps.{HolderStep, facts-at, scanned-at, off-trail, core-counted, loads}
+use Rattle.routes.proofs.invariant.Gatherings.{gathers-on, undoes-on}
+use Rattle.routes.proofs.invariant.Needs.{need-few, full-is}
+
+module _ {m : Mem} {k : Lock} {g : Ghost} {trail : ℕ → List ℕ} {s : State} {t : ℕ} {c : Cpus} (i : Inv m k g trail s t c) where
+  -- What a chain begins with fits into a slot.
+  pub chain-fits : (x : ℕ) (bs : List ℕ) → Chain (view (k .who) m) x bs → ((b : ℕ) → 1 ≤ cnt b bs → 1 ≤ cnt b (g .chain)) → childOf x ≡ x
+  unfolding cnt
+  chain-fits x bs l inside = elim (chain-first (view (k .who) m) x bs l) [
+        inl e ↦ child-same x (omega (arith, e .0))
+      | inr e ↦ child-same x (used-small (i .core) x (let z : 1 ≤ cnt x (g .chain) = inside x (subst (λ ds. 1 ≤ cnt x ds) (sym (e .1 .1)) (rw (eq-eqb x x refl) (omega arith))) in omega arith)) ]
+
+  -- The oldest retired node is one.
+  pub oldest-in : (b : ℕ) → Oldest g b → 1 ≤ cnt b (g .chain)
+  unfolding cnt
+  oldest-in b e = subst (λ ds. 1 ≤ cnt b ds) (sym (e .1)) (rw (eq-eqb b b refl) (omega arith))
+
+  -- What follows it is seen as it is, and fits into a slot.
+  pub follower-fits : (b : ℕ) → Oldest g b → childOf (sees (k .who) b 32 m) ≡ view (k .who) m b 32
+  unfolding cnt
+  follower-fits b e =
+      let l : Chain (view (k .who) m) (view (k .who) m b 32) (e .0) = chain-rest (view (k .who) m) (view (k .who) m 0 3) b (e .0) (subst (Chain (view (k .who) m) (view (k .who) m 0 3)) (e .1) (i .core .sight .linked)) in
+      ap childOf (sym (view-open (k .who) m b 32 (open-block b 32 (solid (i .core) b (let z = oldest-in b e in omega arith))))) ∙
+        chain-fits (view (k .who) m b 32) (e .0) l (λ d n. subst (λ ds. 1 ≤ cnt d ds) (sym (e .1)) (omega arith))
+
+  -- Its stamp is seen as it is.
+  pub stamp-seen : (b : ℕ) → Oldest g b → sees (k .who) b 31 m ≡ g .stamps b
+  stamp-seen b e = sym (view-open (k .who) m b 31 (open-block b 31 (solid (i .core) b (let z = oldest-in b e in omega arith)))) ∙ i .core .sight .stamped b (oldest-in b e) .0
+
+  -- LIMBO_HEAD is 0 where nothing is linked, and else the oldest retired node.
+  pub head-none : sees (k .who) 0 3 m ≡ 0 → g .chain ≡ []
+  head-none e = chain-none (view (k .who) m) _ (g .chain) (i .core .sight .linked) (view-open (k .who) m 0 3 refl ∙ e)
+
+  pub head-oldest : (sees (k .who) 0 3 m ≡ 0 → ⊥) → Oldest g (sees (k .who) 0 3 m)
+  head-oldest n = elim (chain-first (view (k .who) m) (view (k .who) m 0 3) (g .chain) (i .core .sight .linked)) [
+        inl e ↦ absurd (n (sym (view-open (k .who) m 0 3 refl) ∙ e .0))
+      | inr e ↦ (e .1 .0, e .1 .1 ∙ ap (λ z. z ∷ e .1 .0) (view-open (k .who) m 0 3 refl)) ]
+
+  pub head-fits : childOf (sees (k .who) 0 3 m) ≡ sees (k .who) 0 3 m
+  head-fits = subst (λ z. childOf z ≡ z) (view-open (k .who) m 0 3 refl) (chain-fits (view (k .who) m 0 3) (g .chain) (i .core .sight .linked) (λ b n. n))
+
+module _ {m : Mem} {k : Lock} {g : Ghost} {trail : ℕ → List ℕ} {s : State} {t : ℕ} {c : Cpus} (i : Inv m k g trail s t c) (j : Job) (room : length (c .own (k .who)) ≡ 4096) where
+  abbrev h : ℕ
+  h = k .who
+
+  abbrev o : List ℕ
+  o = c .own (k .who)
+
+  module _ (e : c .work (k .who) ≡ Updating j (InRecycle Head)) where
+    -- What is known where the pool has no block.
+    pub head-facts : Gathers g o (s .table) (s .now' h) j × AllUsed (m .blocks) g
+    unfolding PhaseFacts RecycleFacts
+    head-facts = facts-at i j (InRecycle Head) e
+
+    -- There is a retired node.
+    pub head-step : (sees h 0 3 m ≡ 0 → ⊥) → HolderStep m k g trail (s .table) t (s .now' h) (counted m) o (workOfUpdate (recycleAfter j Head (sees h 0 3 m)))
+    unfolding Writer PhaseFacts RecycleFacts holds holdsIn passed passedIn passedRecycle
+    head-step n = subst (λ x. HolderStep m k g trail (s .table) t (s .now' h) (counted m) o (workOfUpdate (oldest j x))) (sym (head-fits i))
+        (rw (ne-eqb (sees h 0 3 m) 0 n)
+          (loads i (s .now' h) o (Updating j (InRecycle (RetiredAt (sees h 0 3 m)))) (head-facts .0 .gathered .has .row) (head-facts .0, head-oldest i n) (λ q b l. absurd (omega arith)) refl))
+
+    -- There is none: then the routes before and after are more than the pool surely has room for.
+    pub head-full : sees h 0 3 m ≡ 0 → tooMuch (m .blocks) (s .table) (head-facts .0 .gathered .qs) ≡ true
+    head-full z = full-is (head-facts .0 .gathered .sure) (m .blocks) g (i .core .good) (head-facts .1) (head-none i z) (head-facts .0 .gathered .has .loose) (head-facts .0 .gathered .has .fresh) (head-facts .0 .wants')
+
+    -- And what was got goes back, once it has taken effect that the update is told full.
+    pub full-step : (n : Now) → Settled FullAnswer n → sees h 0 3 m ≡ 0 → HolderStep m k g trail (s .table) t n (counted m) o (workOfUpdate (recycleAfter j Head (sees h 0 3 m)))
+    full-step n over z = subst (λ x. HolderStep m k g trail (s .table) t n (counted m) o (workOfUpdate (oldest j x))) (sym (head-fits i ∙ z))
+        (undoes-on g j (core-counted (i .core) (head-facts .0 .gathered .has .row)) (λ q. leaves-same g (trail q) q refl)
+          (record { has = head-facts .0 .gathered .has; whole = head-facts .0 .whole; full = over; few = omega (arith, head-facts .0 .wants', need-few (head-facts .0 .gathered .sure)) }))
+
+  -- The stamp of the oldest node: on to the scan for it.
+  pub retired-at-step : (b : ℕ) → c .work (k .who) ≡ Updating j (InRecycle (RetiredAt b)) →
+      HolderStep m k g trail (s .table) t (s .now' h) (counted m) o (workOfUpdate (recycleAfter j (RetiredAt b) (sees h b 31 m)))
+  unfolding Writer PhaseFacts RecycleFacts ScanFacts holds holdsIn passed passedIn passedScan
+  retired-at-step b e =
+      loads i (s .now' h) o _ (d .0 .gathered .has .row)
+        (record { gathers = d .0; oldest = d .1; stamped = sym (stamp-seen i b (d .1)); here = i .core .sizes .someone }) (λ q a l. absurd (omega arith)) refl
+    where
+      d : Gathers g o (s .table) (s .now' h) j × Oldest g b
+      d = facts-at i j (InRecycle (RetiredAt b)) e
+
+  -- What follows it.
+  pub next-step : (b : ℕ) (grace : GracePeriod) → c .work (k .who) ≡ Updating j (InRecycle (Next b grace)) →
+      HolderStep m k g trail (s .table) t (s .now' h) (counted m) o (workOfUpdate (recycleAfter j (Next b grace) (sees h b 32 m)))
+  unfolding Writer PhaseFacts RecycleFacts holds holdsIn passed passedIn passedRecycle
+  next-step b grace e =
+      loads i (s .now' h) o _ (d .0 .gathered .has .row) (d .0, d .1, d .2, sym (follower-fits i b (d .1))) (scanned-at i _ e) refl
+    where
+      d : Gathers g o (s .table) (s .now' h) j × Oldest g b × (g .stamps b < grace .before)
+      d = facts-at i j (InRecycle (Next b grace)) e
+
+  module _ (b next : ℕ) (grace : GracePeriod) (e : c .work (k .who) ≡ Updating j (InRecycle (SetHead b next grace))) where
+    u : Gathers g o (s .table) (s .now' h) j × Oldest g b × (g .stamps b < grace .before) × (view h m b 32 ≡ next)
+    unfolding PhaseFacts RecycleFacts
+    u = facts-at i j (InRecycle (SetHead b next grace)) e
+
+    few : j .got < 72
+    few = omega (arith, need-few (u .0 .gathered .sure), u .0 .wants')
+
+    -- the node has left the chain and is fresh
+    abbrev recycled : Bool → Ghost
+    recycled torn = regroup g (u .1 .0) [] (gotBlocks (more o j b room few) (having (j .got + 1) j)) torn heads
+
+    in-chain : (d : ℕ) → cnt d (g .chain) ≡ bit (eqb d b) + cnt d (u .1 .0)
+    unfolding cnt
+    in-chain d = ap (cnt d) (u .1 .1)
+
+    none-loose : (d : ℕ) → cnt d (g .loose) ≡ 0
+    unfolding cnt
+    none-loose d = ap (cnt d) (u .0 .gathered .has .loose)
+
+    core' : (torn : Bool) → (torn ≡ false → next ≡ 0 → ⊥) → Core (counted (stored h 0 3 next m)) h (k .held) (recycled torn) (s .table) t
+    unfolding cnt
+    core' torn real = core-set (i .core) (heads-row m h (k .held) g (s .table) t (i .core) (u .0 .gathered .has .row)) 3 next (u .1 .0) [] _ torn (omega arith) (omega arith)
+        (λ d. (let z : cnt d (g .fresh) ≡ cnt d (gotBlocks o j) = ap (cnt d) (u .0 .gathered .has .fresh) in omega (arith, in-chain d, none-loose d, got-more o j b room few d)))
+        (sight-head (i .core .sight) b next (u .1 .0) [] _ torn (u .1 .1) (u .3) (λ w. last-kept (i .core .sight) b next (u .1 .0) (u .1 .1) (u .3) (real w) (u .0 .whole)) (λ d n. absurd (omega arith)))
+
+    leaves' : (torn : Bool) (q : ℕ) → Leaves m g (counted (stored h 0 3 next m)) (recycled torn) (trail q) q
+    unfolding cnt passed passedIn passedRecycle
+    leaves' torn q = leaves-regroup m _ g (u .1 .0) [] _ torn heads (trail q) q refl (λ d a. elim (eqb-tells d b) [
+          inl y ↦ absurd (off-trail i _ (grace .before) b e refl (let z = oldest-in i b (u .1) in omega arith) (u .2) q (subst (λ z. 1 ≤ cnt z (trail q)) (y .1) a))
+        | inr y ↦ (let x = in-chain d in let w = none-loose d in grind (arith, tells)) ])
+
+    facts' : (torn : Bool) → Gathered (recycled torn) (more o j b room few) (s .table) (s .now' h) (having (j .got + 1) j)
+    facts' torn = record { has = record { row = refl; loose = refl; fresh = refl }; ps = u .0 .gathered .ps; qs = u .0 .gathered .qs; awaits = u .0 .gathered .awaits
+        ; sure = record { pending = pending-more o j b room few (j .size) (u .0 .gathered .ps) (u .0 .gathered .sure .pending); makes = u .0 .gathered .sure .makes; need = u .0 .gathered .sure .need }
+        ; enough = omega (arith, u .0 .wants'); used = u .0 .gathered .used; retired = u .0 .gathered .retired }
+
+    -- The node leaves the chain and is fresh, in one store.
+    pub set-head-step : HolderStep m k g trail (s .table) t (s .now' h) (counted (stored h 0 3 next m)) (recycleWords j (SetHead b next grace) o 0) (workOfUpdate (recycleAfter j (SetHead b next grace) 0))
+    unfolding Writer PhaseFacts RecycleFacts holds holdsIn passed passedIn passedRecycle
+    set-head-step = elim (eqb-tells next 0) [
+          inl y ↦ rw (y .0) (record { ghost = recycled true; core = core' true (λ w. absurd (true≢false w)); leaves = leaves' true
+            ; facts = (facts' true, chain-none (view h m) next (u .1 .0) rest (y .1)); scanned = λ q d l. absurd (omega arith); holding = refl })
+        | inr y ↦ rw (y .0) (gathers-on (recycled false) (having (j .got + 1) j) (core' false (λ w. y .1)) (leaves' false) (facts' false) refl) ]
+      where
+        rest : Chain (view h m) next (u .1 .0)
+        rest = subst (λ z. Chain (view h m) z (u .1 .0)) (u .3) (chain-rest (view h m) (view h m 0 3) b (u .1 .0) (subst (Chain (view h m) (view h m 0 3)) (u .1 .1) (i .core .sight .linked)))
+
+  -- It was the last: LIMBO_TAIL says so.
+  pub set-tail-step : c .work (k .who) ≡ Updating j (InRecycle SetTail) → HolderStep m k g trail (s .table) t (s .now' h) (counted (stored h 0 4 0 m)) o (workOfUpdate (recycleAfter j SetTail 0))
+  unfolding PhaseFacts RecycleFacts cnt
+  set-tail-step e =
+      gathers-on (regroup g [] (g .loose) (g .fresh) false heads) j
+        (core-set (i .core) (heads-row m h (k .held) g (s .table) t (i .core) (d .0 .has .row)) 4 0 [] (g .loose) (g .fresh) false (omega arith) (omega arith) (λ b. omega (arith, none b)) (sight-tail (i .core .sight) (d .1)))
+        (λ q. leaves-regroup m _ g [] (g .loose) (g .fresh) false heads (trail q) q refl (λ b a. omega (arith, none b)))
+        (record { has = record { row = refl; loose = d .0 .has .loose; fresh = d .0 .has .fresh }; ps = d .0 .ps; qs = d .0 .qs; awaits = d .0 .awaits; sure = d .0 .sure; enough = d .0 .enough; used = d .0 .used; retired = d .0 .retired })
+        refl
+    where
+      d : Gathered g o (s .table) (s .now' h) j × (g .chain ≡ [])
+      d = facts-at i j (InRecycle SetTail) e
+      none : (b : ℕ) → cnt b (g .chain) ≡ 0
+      none b = ap (cnt b) (d .1)

@@ -1,5 +1,10 @@
-pub mod Rely
+pub mod Aging
+pub mod Alike
 pub mod Apart
+pub mod Holding
+pub mod Rely
+pub mod Steps
+pub mod Storing
 pub mod Chains
 pub mod HeadRows
 pub mod FreshBlocks

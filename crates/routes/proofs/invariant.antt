@@ -15,3 +15,5 @@ pub mod Needs
 pub mod Gatherings
 pub mod Obtains
 pub mod Recycles
+pub mod Scans
+pub mod Reclaims

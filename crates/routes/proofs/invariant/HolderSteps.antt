@@ -1,28 +1,32 @@
--- A step of the lock's holder while its late stores go to LIMBO_HEAD and LIMBO_TAIL: what is shown of it, whatever was seen.
+-- A step of the lock's holder that keeps it: what is shown of it by the registers that follow, and that it is a turn.
 use mathlib.Core.Path.{_≡_, refl, sym, ap, subst, _∙_}
-use mathlib.Core.Bool.{Bool, true, false}
-use mathlib.Core.List.{List, []}
+use mathlib.Core.Bool.{true}
+use mathlib.Core.List.{List, [], _∷_}
 use mathlib.Core.Logic.{_⊎_, inl, inr}
 use Prim.Native.Nat.{ℕ, suc, _+_, _<_, _≤_}
 use native.Mathlib.Omega.{arith}
-use Rattle.std.proofs.shelf.Tests.{cases-lt}
+use lib.Dec.{T}
+use lib.ListN.{length}
+use Rattle.std.proofs.shelf.Tests.{cases-lt, false≢true}
 use Rattle.routes.specs.declared.lookup.Lookup.the-variants.{Epoch, Announce, Root, Node, Leave}
 use Rattle.routes.specs.declared.update.job.Job.{Job}
 use Rattle.routes.specs.declared.update.Phase.{Phase}
 use Rattle.routes.specs.declared.work.Work.{Work}
 use Rattle.routes.specs.declared.work.Work.the-variants.{Idle, Lookup as Looking, Update as Updating}
 use Rattle.routes.specs.Memory.{Mem, counted}
-use Rattle.routes.specs.Routes.{Route, Now, State}
+use Rattle.routes.specs.Routes.{Route, Now, State, Event, Turned, Run, young}
 use Rattle.routes.specs.counts.Counts.{cnt}
 use Rattle.routes.specs.late.View.{view}
-use Rattle.routes.specs.invariant.Ghosts.{Ghost, heads, limbo}
+use Rattle.routes.specs.invariant.Ghosts.{Ghost, limbo}
 use Rattle.routes.specs.invariant.Memories.{Core}
 use Rattle.routes.specs.invariant.Readers.{LooksUp, Does}
 use Rattle.routes.specs.invariant.Registers.{loaded, loadedIn, announced, announcedIn, holds, passed, passedBy}
 use Rattle.routes.specs.invariant.Writers.{Writer, PhaseFacts, hallOf}
 use Rattle.routes.specs.invariant.Inv.{Inv, Lock, Cpus}
 use Rattle.routes.proofs.invariant.Rely.{Leaves, leaves-same}
-use Rattle.routes.proofs.invariant.HeadRows.{heads-row, row-heads}
+use Rattle.routes.proofs.invariant.Holding.{core-counted, hold-turn}
+use Rattle.routes.proofs.invariant.Alike.{Alike}
+use Rattle.routes.proofs.invariant.Steps.{lockOf, setCpu, Turn}
 
 -- what is on a trail that this scan has passed, and is retired, was retired at its limit or later
 abbrev pub Scanned : ℕ → Ghost → (ℕ → List ℕ) → Work → Type 0
@@ -59,14 +63,6 @@ announced-loaded (Looking (Node a x l b best)) = omega arith
 announced-loaded (Looking (Leave x best)) = omega arith
 announced-loaded (Updating j s) = omega arith
 
--- Memory that was asked for something is known as before.
-pub core-counted : {m : Mem} {h : ℕ} {l : Bool} {g : Ghost} {rs : List Route} {t : ℕ} → Core m h l g rs t → g .row ≡ heads → Core (counted m) h l g rs t
-unfolding view
-core-counted {m} {h} {l} {g} {rs} {t} o e = record
-  { sizes = record { someone = o .sizes .someone; cpus = o .sizes .cpus; blocks = o .sizes .blocks }
-  ; others = o .others; row = row-heads (counted m) h g _ e (heads-row m h l g rs t o e); writer = o .writer; root = o .root; repr = o .repr; good = o .good
-  ; blocks = o .blocks; inside = o .inside; sight = o .sight }
-
 module _ {m : Mem} {k : Lock} {g : Ghost} {trail : ℕ → List ℕ} {s : State} {t : ℕ} {c : Cpus} (i : Inv m k g trail s t c) where
   -- What the holder's registers say.
   pub facts-at : (j : Job) (p : Phase) → c .work (k .who) ≡ Updating j p → PhaseFacts (view (k .who) m) (hallOf m) g (c .own (k .who)) (s .table) (s .now' (k .who)) j p
@@ -98,7 +94,23 @@ module _ {m : Mem} {k : Lock} {g : Ghost} {trail : ℕ → List ℕ} {s : State}
       | inr large ↦ (let z : 1 ≤ cnt b [] = rw (outside-trail q large) at a in omega arith) ]
 
   -- A load, by which nothing changes but registers.
-  pub loads : (n : Now) (own : List ℕ) (work : Work) → g .row ≡ heads → Writer (view (k .who) m) (hallOf m) g own (s .table) n work → Scanned (m .cpus) g trail work → holds work ≡ true →
+  pub loads : (n : Now) (own : List ℕ) (work : Work) → Writer (view (k .who) m) (hallOf m) g own (s .table) n work → Scanned (m .cpus) g trail work → holds work ≡ true →
       HolderStep m k g trail (s .table) t n (counted m) own work
   unfolding view
-  loads n own work e f z h = record { ghost = g; core = core-counted (i .core) e; leaves = λ q. leaves-same g (trail q) q refl; facts = f; scanned = z; holding = h }
+  loads n own work f z h = record { ghost = g; core = core-counted (i .core); leaves = λ q. leaves-same g (trail q) q refl; facts = f; scanned = z; holding = h }
+
+-- Such a step is a turn, in which a hidden step may have been taken before.
+pub step-turn : {m : Mem} {g : Ghost} {trail : ℕ → List ℕ} {s : State} {t : ℕ} {c : Cpus} {p cpus blocks : ℕ} {es : List Event} {s' : State} {m' : Mem} (own : List ℕ) (work : Work) →
+    Inv m (lockOf p true) g trail s t c → Alike p s s' → Run cpus blocks es s' → T (young (s' .now' p)) → m' .cpus ≡ m .cpus → length own ≡ 4096 →
+    HolderStep m (lockOf p true) g trail (s .table) t (s' .now' p) m' own work → Turn m' t (setCpu p work own c) cpus blocks (Turned p ∷ es)
+unfolding holds Writer passed
+step-turn own Idle i a r y same room n = absurd (false≢true (n .holding))
+step-turn own (Looking l) i a r y same room n = absurd (false≢true (n .holding))
+step-turn {m} {g} {trail} {s} {t} {c} {p} {s' = s'} {m' = m'} own (Updating j ph) i a r y same room n = hold-turn i a r y (record
+    { core = subst (λ rs. Core m' p true (n .ghost) rs t) (sym (a .table)) (n .core)
+    ; leaves = n .leaves
+    ; cpus = same
+    ; holds' = n .holding
+    ; room = room
+    ; facts = subst (λ rs. PhaseFacts (view p m') (hallOf m') (n .ghost) own rs (s' .now' p) j ph) (sym (a .table)) (n .facts)
+    ; scanned = n .scanned })

@@ -67,7 +67,7 @@ module _ {m : Mem} {k : Lock} {g : Ghost} {trail : ℕ → List ℕ} {s : State}
     -- There is none: every block is in use.
     pub get-none : ((b : ℕ) → b < m .blocks → m .held b ≡ true) → HolderStep m k g trail (s .table) t (s .now' h) (counted m) (obtainWords j Get o 0) (workOfUpdate (obtainAfter j Get 0))
     unfolding Writer PhaseFacts RecycleFacts holds holdsIn passed passedIn passedRecycle
-    get-none all = loads i (s .now' h) o (Updating j (InRecycle Head)) (f .gathered .has .row)
+    get-none all = loads i (s .now' h) o (Updating j (InRecycle Head))
         (f, λ b l. omega (arith, i .core .blocks b, ap bit (all b l)))
         (λ q b l. absurd (omega arith)) refl
 

@@ -42,7 +42,8 @@ use Rattle.routes.proofs.invariant.HeadRows.{HeadsRow, heads-row}
 use Rattle.routes.proofs.invariant.HeadCores.{regroup, core-set, leaves-regroup}
 use Rattle.routes.proofs.invariant.HeadSights.{sight-head, sight-tail, last-kept}
 use Rattle.routes.proofs.invariant.FreshBlocks.{more, got-more, pending-more}
-use Rattle.routes.proofs.invariant.HolderSteps.{HolderStep, facts-at, scanned-at, off-trail, core-counted, loads}
+use Rattle.routes.proofs.invariant.HolderSteps.{HolderStep, facts-at, scanned-at, off-trail, loads}
+use Rattle.routes.proofs.invariant.Holding.{core-counted}
 use Rattle.routes.proofs.invariant.Gatherings.{gathers-on, undoes-on}
 use Rattle.routes.proofs.invariant.Needs.{need-few, full-is}
 
@@ -101,7 +102,7 @@ module _ {m : Mem} {k : Lock} {g : Ghost} {trail : ℕ → List ℕ} {s : State}
     unfolding Writer PhaseFacts RecycleFacts holds holdsIn passed passedIn passedRecycle
     head-step n = subst (λ x. HolderStep m k g trail (s .table) t (s .now' h) (counted m) o (workOfUpdate (oldest j x))) (sym (head-fits i))
         (rw (ne-eqb (sees h 0 3 m) 0 n)
-          (loads i (s .now' h) o (Updating j (InRecycle (RetiredAt (sees h 0 3 m)))) (head-facts .0 .gathered .has .row) (head-facts .0, head-oldest i n) (λ q b l. absurd (omega arith)) refl))
+          (loads i (s .now' h) o (Updating j (InRecycle (RetiredAt (sees h 0 3 m)))) (head-facts .0, head-oldest i n) (λ q b l. absurd (omega arith)) refl))
 
     -- There is none: then the routes before and after are more than the pool surely has room for.
     pub head-full : sees h 0 3 m ≡ 0 → tooMuch (m .blocks) (s .table) (head-facts .0 .gathered .qs) ≡ true
@@ -110,7 +111,7 @@ module _ {m : Mem} {k : Lock} {g : Ghost} {trail : ℕ → List ℕ} {s : State}
     -- And what was got goes back, once it has taken effect that the update is told full.
     pub full-step : (n : Now) → Settled FullAnswer n → sees h 0 3 m ≡ 0 → HolderStep m k g trail (s .table) t n (counted m) o (workOfUpdate (recycleAfter j Head (sees h 0 3 m)))
     full-step n over z = subst (λ x. HolderStep m k g trail (s .table) t n (counted m) o (workOfUpdate (oldest j x))) (sym (head-fits i ∙ z))
-        (undoes-on g j (core-counted (i .core) (head-facts .0 .gathered .has .row)) (λ q. leaves-same g (trail q) q refl)
+        (undoes-on g j (core-counted (i .core)) (λ q. leaves-same g (trail q) q refl)
           (record { has = head-facts .0 .gathered .has; whole = head-facts .0 .whole; full = over; few = omega (arith, head-facts .0 .wants', need-few (head-facts .0 .gathered .sure)) }))
 
   -- The stamp of the oldest node: on to the scan for it.
@@ -118,7 +119,7 @@ module _ {m : Mem} {k : Lock} {g : Ghost} {trail : ℕ → List ℕ} {s : State}
       HolderStep m k g trail (s .table) t (s .now' h) (counted m) o (workOfUpdate (recycleAfter j (RetiredAt b) (sees h b 31 m)))
   unfolding Writer PhaseFacts RecycleFacts ScanFacts holds holdsIn passed passedIn passedScan
   retired-at-step b e =
-      loads i (s .now' h) o _ (d .0 .gathered .has .row)
+      loads i (s .now' h) o _
         (record { gathers = d .0; oldest = d .1; stamped = sym (stamp-seen i b (d .1)); here = i .core .sizes .someone }) (λ q a l. absurd (omega arith)) refl
     where
       d : Gathers g o (s .table) (s .now' h) j × Oldest g b
@@ -129,7 +130,7 @@ module _ {m : Mem} {k : Lock} {g : Ghost} {trail : ℕ → List ℕ} {s : State}
       HolderStep m k g trail (s .table) t (s .now' h) (counted m) o (workOfUpdate (recycleAfter j (Next b grace) (sees h b 32 m)))
   unfolding Writer PhaseFacts RecycleFacts holds holdsIn passed passedIn passedRecycle
   next-step b grace e =
-      loads i (s .now' h) o _ (d .0 .gathered .has .row) (d .0, d .1, d .2, sym (follower-fits i b (d .1))) (scanned-at i _ e) refl
+      loads i (s .now' h) o _ (d .0, d .1, d .2, sym (follower-fits i b (d .1))) (scanned-at i _ e) refl
     where
       d : Gathers g o (s .table) (s .now' h) j × Oldest g b × (g .stamps b < grace .before)
       d = facts-at i j (InRecycle (Next b grace)) e

@@ -17,3 +17,5 @@ pub mod Obtains
 pub mod Recycles
 pub mod Scans
 pub mod Reclaims
+pub mod GatherReady
+pub mod GatherTurns

@@ -46,8 +46,9 @@ module _ {m : Mem} {k : Lock} {g : Ghost} {trail : ℕ → List ℕ} {s : State}
     unfolding PhaseFacts ObtainFacts
     f = facts-at i j (InObtain Get) e
 
-    few : j .got < 72
-    few = omega (arith, need-few (f .gathered .sure), f .wants')
+    -- There is room for one more among the own words.
+    pub got-few : j .got < 72
+    got-few = omega (arith, need-few (f .gathered .sure), f .wants')
 
     row : HeadsRow h m
     row = heads-row m h (k .held) g (s .table) t (i .core) (f .gathered .has .row)
@@ -56,11 +57,11 @@ module _ {m : Mem} {k : Lock} {g : Ghost} {trail : ℕ → List ℕ} {s : State}
     pub get-step : (b : ℕ) (words : ℕ → ℕ → ℕ) → b < m .blocks → m .held b ≡ false → ((d w : ℕ) → (d ≡ b → ⊥) → words d w ≡ m .val d w) →
         HolderStep m k g trail (s .table) t (s .now' h) (counted (obtained b words m)) (obtainWords j Get o (suc b)) (workOfUpdate (obtainAfter j Get (suc b)))
     get-step b words inside free same =
-        gathers-on (regroup g (g .chain) (g .loose) (gotBlocks (more o j b room few) (having (j .got + 1) j)) (g .torn) heads) (having (j .got + 1) j)
-          (core-obtain (i .core) row b words inside free same _ (λ d. got-more o j b room few d ∙ (let z : cnt d (g .fresh) ≡ cnt d (gotBlocks o j) = ap (cnt d) (f .gathered .has .fresh) in omega arith)))
+        gathers-on (regroup g (g .chain) (g .loose) (gotBlocks (more o j b room got-few) (having (j .got + 1) j)) (g .torn) heads) (having (j .got + 1) j)
+          (core-obtain (i .core) row b words inside free same _ (λ d. got-more o j b room got-few d ∙ (let z : cnt d (g .fresh) ≡ cnt d (gotBlocks o j) = ap (cnt d) (f .gathered .has .fresh) in omega arith)))
           (λ q. leaves-obtain (i .core) row b words inside free same _ heads (trail q) q (i .readers q .safe))
           (record { has = record { row = refl; loose = f .gathered .has .loose; fresh = refl }; ps = f .gathered .ps; qs = f .gathered .qs; awaits = f .gathered .awaits
-            ; sure = record { pending = pending-more o j b room few (j .size) (f .gathered .ps) (f .gathered .sure .pending); makes = f .gathered .sure .makes; need = f .gathered .sure .need }
+            ; sure = record { pending = pending-more o j b room got-few (j .size) (f .gathered .ps) (f .gathered .sure .pending); makes = f .gathered .sure .makes; need = f .gathered .sure .need }
             ; enough = omega (arith, f .wants'); used = f .gathered .used; retired = f .gathered .retired })
           (f .whole)
 

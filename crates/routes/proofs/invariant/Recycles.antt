@@ -140,12 +140,13 @@ module _ {m : Mem} {k : Lock} {g : Ghost} {trail : ℕ → List ℕ} {s : State}
     unfolding PhaseFacts RecycleFacts
     u = facts-at i j (InRecycle (SetHead b next grace)) e
 
-    few : j .got < 72
-    few = omega (arith, need-few (u .0 .gathered .sure), u .0 .wants')
+    -- There is room for one more among the own words.
+    pub reuse-few : j .got < 72
+    reuse-few = omega (arith, need-few (u .0 .gathered .sure), u .0 .wants')
 
     -- the node has left the chain and is fresh
     abbrev recycled : Bool → Ghost
-    recycled torn = regroup g (u .1 .0) [] (gotBlocks (more o j b room few) (having (j .got + 1) j)) torn heads
+    recycled torn = regroup g (u .1 .0) [] (gotBlocks (more o j b room reuse-few) (having (j .got + 1) j)) torn heads
 
     in-chain : (d : ℕ) → cnt d (g .chain) ≡ bit (eqb d b) + cnt d (u .1 .0)
     unfolding cnt
@@ -158,7 +159,7 @@ module _ {m : Mem} {k : Lock} {g : Ghost} {trail : ℕ → List ℕ} {s : State}
     core' : (torn : Bool) → (torn ≡ false → next ≡ 0 → ⊥) → Core (counted (stored h 0 3 next m)) h (k .held) (recycled torn) (s .table) t
     unfolding cnt
     core' torn real = core-set (i .core) (heads-row m h (k .held) g (s .table) t (i .core) (u .0 .gathered .has .row)) 3 next (u .1 .0) [] _ torn (omega arith) (omega arith)
-        (λ d. (let z : cnt d (g .fresh) ≡ cnt d (gotBlocks o j) = ap (cnt d) (u .0 .gathered .has .fresh) in omega (arith, in-chain d, none-loose d, got-more o j b room few d)))
+        (λ d. (let z : cnt d (g .fresh) ≡ cnt d (gotBlocks o j) = ap (cnt d) (u .0 .gathered .has .fresh) in omega (arith, in-chain d, none-loose d, got-more o j b room reuse-few d)))
         (sight-head (i .core .sight) b next (u .1 .0) [] _ torn (u .1 .1) (u .3) (λ w. last-kept (i .core .sight) b next (u .1 .0) (u .1 .1) (u .3) (real w) (u .0 .whole)) (λ d n. absurd (omega arith)))
 
     leaves' : (torn : Bool) (q : ℕ) → Leaves m g (counted (stored h 0 3 next m)) (recycled torn) (trail q) q
@@ -167,9 +168,9 @@ module _ {m : Mem} {k : Lock} {g : Ghost} {trail : ℕ → List ℕ} {s : State}
           inl y ↦ absurd (off-trail i _ (grace .before) b e refl (let z = oldest-in i b (u .1) in omega arith) (u .2) q (subst (λ z. 1 ≤ cnt z (trail q)) (y .1) a))
         | inr y ↦ (let x = in-chain d in let w = none-loose d in grind (arith, tells)) ])
 
-    facts' : (torn : Bool) → Gathered (recycled torn) (more o j b room few) (s .table) (s .now' h) (having (j .got + 1) j)
+    facts' : (torn : Bool) → Gathered (recycled torn) (more o j b room reuse-few) (s .table) (s .now' h) (having (j .got + 1) j)
     facts' torn = record { has = record { row = refl; loose = refl; fresh = refl }; ps = u .0 .gathered .ps; qs = u .0 .gathered .qs; awaits = u .0 .gathered .awaits
-        ; sure = record { pending = pending-more o j b room few (j .size) (u .0 .gathered .ps) (u .0 .gathered .sure .pending); makes = u .0 .gathered .sure .makes; need = u .0 .gathered .sure .need }
+        ; sure = record { pending = pending-more o j b room reuse-few (j .size) (u .0 .gathered .ps) (u .0 .gathered .sure .pending); makes = u .0 .gathered .sure .makes; need = u .0 .gathered .sure .need }
         ; enough = omega (arith, u .0 .wants'); used = u .0 .gathered .used; retired = u .0 .gathered .retired }
 
     -- The node leaves the chain and is fresh, in one store.

@@ -1,8 +1,12 @@
 pub mod Aging
 pub mod Alike
 pub mod Apart
+pub mod Arriving
+pub mod Calm
 pub mod Holding
+pub mod Moment
 pub mod Rely
+pub mod Ripening
 pub mod Steps
 pub mod Storing
 pub mod Chains

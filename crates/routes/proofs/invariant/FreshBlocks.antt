@@ -11,7 +11,6 @@ use Rattle.own.proofs.Words.{words-set, put-miss}
 use Rattle.routes.specs.declared.Piece.{Piece}
 use Rattle.routes.specs.declared.update.job.Job.{Job}
 use Rattle.routes.specs.counts.Counts.{bit, cnt, seg}
-use Rattle.routes.specs.machine.Begins.{stored}
 use Rattle.routes.specs.machine.Jobs.{having, using'}
 use Rattle.routes.specs.invariant.Readers.{Pending}
 use Rattle.routes.specs.invariant.Holders.{gotBlocks, restBlocks}

@@ -1,8 +1,8 @@
 -- Obtain, Recycle, Scan, Reclaim and Finish may take their turns: registers are in their ranges, and what they ask may be asked.
 use mathlib.Core.Path.{_≡_, refl, sym, subst}
 use mathlib.Core.Bool.{true}
-use mathlib.Core.List.{List, [], _∷_}
-use Prim.Native.Nat.{ℕ, suc, _+_, _-_, _^_, _<_, _≤_}
+use mathlib.Core.List.{List}
+use Prim.Native.Nat.{ℕ, _+_, _-_, _^_, _<_, _≤_}
 use native.Mathlib.Omega.{arith}
 use Rattle.std.proofs.shelf.Tests.{eq-eqb}
 use Rattle.own.specs.Layout.{wordsOf, freshAt}

@@ -1,11 +1,13 @@
--- The turns of Obtain, Recycle, Scan, Reclaim and Finish that keep the lock, from the reply of the memory to the invariant right after it was asked.
-use mathlib.Core.Path.{_≡_, refl, sym, ap, subst, _∙_}
+-- The turns of Obtain, Recycle, Scan, Reclaim and Finish that keep the lock: from what the memory did to the invariant.
+use mathlib.Core.Path.{_≡_, refl, sym, subst}
 use mathlib.Core.Bool.{true}
 use mathlib.Core.List.{List, _∷_}
 use mathlib.Core.Logic.{inl, inr}
-use Prim.Native.Nat.{ℕ, zero, suc, _+_}
+use Prim.Native.Nat.{ℕ, zero, suc}
 use lib.Dec.{T}
 use lib.ListN.{length}
+use Rattle.std.specs.declared.option.Option.the-variants.{None}
+use Rattle.std.proofs.shelf.Tests.{false≢true}
 use Rattle.std.proofs.shelf.Ways.{eqb-tells}
 use Rattle.routes.specs.declared.Answer.the-variants.{Full as FullAnswer}
 use Rattle.routes.specs.declared.Ask.the-variants.{Change}
@@ -20,23 +22,24 @@ use Rattle.routes.specs.declared.update.scan.Scan.{Scan}
 use Rattle.routes.specs.declared.update.scan.Scan.the-variants.{ForNode, ForLimit}
 use Rattle.routes.specs.declared.update.Phase.{Phase}
 use Rattle.routes.specs.declared.update.Phase.the-variants.{Obtain as InObtain, Recycle as InRecycle, Scan as InScan, Reclaim as InReclaim, Finish as InFinish}
-use Rattle.routes.specs.declared.work.Work.{Work}
+use Rattle.routes.specs.declared.update.UpdateNext.{UpdateNext}
+use Rattle.routes.specs.declared.update.UpdateNext.the-variants.{On, Told}
 use Rattle.routes.specs.declared.work.Work.the-variants.{Update as Updating}
-use Rattle.routes.specs.Memory.{Mem, Arrives, sees, counted, stored, released}
-use Rattle.routes.specs.Routes.{State, Now, Under, Over, Event, Turned, Run, young, limit}
-use Rattle.routes.specs.late.Steps.{obtained}
+use Rattle.routes.specs.Memory.{Mem, Arrives, sees, counted}
+use Rattle.routes.specs.Routes.{State, Under, Over, Event, Turned, Run, young, limit}
 use Rattle.routes.specs.machine.Acts.{Did}
-use Rattle.routes.specs.machine.Cpus.{workOfUpdate}
-use Rattle.routes.specs.machine.Obtains.{freshIn}
+use Rattle.routes.specs.machine.Cpus.{workOfUpdate, toldOfUpdate}
 use Rattle.routes.specs.machine.Updates.{updateAct, updateAfter, updateWords}
 use Rattle.routes.specs.run.Steps.{settledAt}
 use Rattle.routes.specs.invariant.Ghosts.{Ghost}
 use Rattle.routes.specs.invariant.Gathering.{Gathered}
+use Rattle.routes.specs.invariant.Registers.{holds}
 use Rattle.routes.specs.invariant.Inv.{Inv, Cpus}
 use Rattle.routes.proofs.late.Obtain.{obtains-some, obtains-none}
 use Rattle.routes.proofs.run.Make.{settle-full}
 use Rattle.routes.proofs.run.Steps.{now-own}
-use Rattle.routes.proofs.invariant.Alike.{Alike, alike-same, alike-settled}
+use Rattle.routes.proofs.invariant.Alike.{alike-same, alike-settled}
+use Rattle.routes.proofs.invariant.Arriving.{turn-arrives}
 use Rattle.routes.proofs.invariant.FreshBlocks.{room-more}
 use Rattle.routes.proofs.invariant.Holding.{holder-room}
 use Rattle.routes.proofs.invariant.HolderSteps.{HolderStep, step-turn}
@@ -46,11 +49,16 @@ use Rattle.routes.proofs.invariant.Reclaims.{head-step as reclaim-head, retire
 use Rattle.routes.proofs.invariant.Scans.{for-node-step, for-limit-step}
 use Rattle.routes.proofs.invariant.Steps.{lockOf, setCpu, Turn}
 
--- a turn of p after which memory is n: the invariant right after memory was asked, and what has arrived since
-pub record TurnOn (t : ℕ) (c : Cpus) (cpus blocks : ℕ) (es : List Event) (n : Mem) : Type 0 where
-  pub after : Mem
-  pub arrives : Arrives after n
-  pub turn : Turn after t c cpus blocks es
+-- a turn of p that goes on with its update, with these own words, and tells nothing; n is the memory after it and after what has arrived since
+pub record TurnOn (t : ℕ) (c : Cpus) (p : ℕ) (s : State) (own : List ℕ) (next : UpdateNext) (cpus blocks : ℕ) (es : List Event) (n : Mem) : Type 0 where
+  pub turn : Turn n t (setCpu p (workOfUpdate next) own c) cpus blocks (Turned p ∷ es) p s
+  pub untold : toldOfUpdate next ≡ None
+
+-- An update that still holds the lock has told nothing.
+pub none-told : (u : UpdateNext) → holds (workOfUpdate u) ≡ true → toldOfUpdate u ≡ None
+unfolding holds
+none-told (On j ph) e = refl
+none-told (Told a) e = absurd (false≢true e)
 
 module _ {m : Mem} {g : Ghost} {trail : ℕ → List ℕ} {s : State} {t : ℕ} {c : Cpus} {p : ℕ} (i : Inv m (lockOf p true) g trail s t c)
          {cpus blocks : ℕ} {es : List Event} (r : Run cpus blocks es s) (y : T (young (s .now' p))) (j : Job) where
@@ -59,12 +67,12 @@ module _ {m : Mem} {g : Ghost} {trail : ℕ → List ℕ} {s : State} {t : ℕ} 
 
   -- the turn from this phase by this reply, to memory n
   abbrev pub Goes : Phase → ℕ → Mem → Type 0
-  Goes ph x n = TurnOn t (setCpu p (workOfUpdate (updateAfter (m .cpus) j ph o x)) (updateWords j ph o x) c) cpus blocks (Turned p ∷ es) n
+  Goes ph x n = TurnOn t c p s (updateWords j ph o x) (updateAfter (m .cpus) j ph o x) cpus blocks es n
 
   -- A step that needs no hidden one.
-  goes : {n m' : Mem} (own : List ℕ) (work : Work) → Arrives m' n → m' .cpus ≡ m .cpus → length own ≡ 4096 → HolderStep m (lockOf p true) g trail (s .table) t (s .now' p) m' own work →
-      TurnOn t (setCpu p work own c) cpus blocks (Turned p ∷ es) n
-  goes own work a same room h = record { after = _; arrives = a; turn = step-turn own work i (alike-same p s) r y same room h }
+  goes : {n m' : Mem} (own : List ℕ) (next : UpdateNext) → Arrives m' n → m' .cpus ≡ m .cpus → length own ≡ 4096 → HolderStep m (lockOf p true) g trail (s .table) t (s .now' p) m' own (workOfUpdate next) →
+      TurnOn t c p s own next cpus blocks es n
+  goes own next a same room h = record { turn = turn-arrives a (step-turn own (workOfUpdate next) i (alike-same p s) r y same room h); untold = none-told next (h .holding) }
 
   -- Get: a block, or none.
   pub get-turn : (x : ℕ) (n : Mem) → c .work p ≡ Updating j (InObtain Get) → Did p (updateAct p j (InObtain Get) o) m x n → Goes (InObtain Get) x n
@@ -79,9 +87,9 @@ module _ {m : Mem} {g : Ghost} {trail : ℕ → List ℕ} {s : State} {t : ℕ} 
   -- Where nothing is retired, the update is told full: it takes effect in this turn.
   full-turn : blocks ≡ m .blocks → (n : Mem) → c .work p ≡ Updating j (InRecycle OldHead) → sees p 0 3 m ≡ 0 → Arrives (counted m) n → Goes (InRecycle OldHead) (sees p 0 3 m) n
   unfolding young
-  full-turn size n e z a = record { after = counted m; arrives = a
-      ; turn = step-turn o _ i (alike-settled p (Change count) (f .ps) FullAnswer age s is) run' soon refl (holder-room i)
-          (full-step i j (holder-room i) e (settled .now' p) (count, age, now-own p (Over (Change count) FullAnswer age) (s .table) s) z) }
+  full-turn size n e z a = record
+      { turn = turn-arrives a (step-turn o _ i (alike-settled p (Change count) (f .ps) FullAnswer age s is) run' soon refl (holder-room i) undoes)
+      ; untold = none-told (updateAfter (m .cpus) j (InRecycle OldHead) o (sees p 0 3 m)) (undoes .holding) }
     where
       f : Gathered g o (s .table) (s .now' p) j
       f = head-facts i j (holder-room i) e .0 .gathered
@@ -95,6 +103,8 @@ module _ {m : Mem} {g : Ghost} {trail : ℕ → List ℕ} {s : State} {t : ℕ} 
       settled = settledAt p (Change count) FullAnswer age (s .table) s
       run' : Run cpus blocks es settled
       run' = settle-full r p count (f .ps) age (f .qs) is (f .sure .makes) (rw size (head-full i j (holder-room i) e z))
+      undoes : HolderStep m (lockOf p true) g trail (s .table) t (settled .now' p) (counted m) o (workOfUpdate (updateAfter (m .cpus) j (InRecycle OldHead) o (sees p 0 3 m)))
+      undoes = full-step i j (holder-room i) e (settled .now' p) (count, age, now-own p (Over (Change count) FullAnswer age) (s .table) s) z
       soon : T (young (settled .now' p))
       soon = rw (now-own p (Over (Change count) FullAnswer age) (s .table) s) (rw is at y)
 

@@ -1,22 +1,17 @@
 -- One block more is there: on to the next, or to Build.
-use mathlib.Core.Path.{_≡_, refl, sym, _∙_}
-use mathlib.Core.Bool.{true, false}
-use mathlib.Core.List.{List, []}
+use mathlib.Core.Path.{_≡_, refl}
+use mathlib.Core.Bool.{false}
+use mathlib.Core.List.{List}
 use mathlib.Core.Logic.{inl, inr}
-use Prim.Native.Nat.{ℕ, _+_, _<_, _≤_}
+use Prim.Native.Nat.{ℕ}
 use native.Mathlib.Omega.{arith}
-use lib.Dec.{ltb}
 use Rattle.std.proofs.shelf.Tests.{cases-lt, lt-ltb, le-ltb}
 use Rattle.routes.specs.declared.update.job.Job.{Job}
-use Rattle.routes.specs.declared.update.build.Build.the-variants.{Root}
-use Rattle.routes.specs.declared.update.obtain.Obtain.the-variants.{Get, Undo, Full}
-use Rattle.routes.specs.declared.update.Phase.the-variants.{Build as InBuild, Obtain as InObtain}
-use Rattle.routes.specs.declared.work.Work.the-variants.{Update as Updating}
 use Rattle.routes.specs.Memory.{Mem}
 use Rattle.routes.specs.Routes.{Route, Now}
 use Rattle.routes.specs.machine.Cpus.{workOfUpdate}
 use Rattle.routes.specs.machine.Obtains.{gathering, undoing}
-use Rattle.routes.specs.invariant.Ghosts.{Ghost, calm}
+use Rattle.routes.specs.invariant.Ghosts.{Ghost}
 use Rattle.routes.specs.invariant.Memories.{Core}
 use Rattle.routes.specs.invariant.Gathering.{Gathered, Undoes, ObtainFacts}
 use Rattle.routes.specs.invariant.Building.{BuildFacts}

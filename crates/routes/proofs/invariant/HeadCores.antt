@@ -7,12 +7,12 @@ use Prim.Native.Nat.{ℕ, _+_, _<_, _≤_}
 use native.Mathlib.Omega.{arith}
 use lib.Dec.{eqb}
 use Rattle.std.proofs.shelf.Ways.{tells, eqb-tells}
-use Rattle.std.proofs.shelf.Tests.{cases-bool, ne-eqb}
-use Rattle.routes.specs.Memory.{Mem, setAt, setVal, counted, stored, released}
+use Rattle.std.proofs.shelf.Tests.{cases-bool}
+use Rattle.routes.specs.Memory.{Mem, setVal, counted, stored, released}
 use Rattle.routes.specs.Routes.{Route}
 use Rattle.routes.specs.counts.Counts.{bit, cnt}
 use Rattle.routes.specs.late.Steps.{obtained}
-use Rattle.routes.specs.late.View.{masked, view}
+use Rattle.routes.specs.late.View.{view}
 use Rattle.routes.specs.tree.Trees.{count}
 use Rattle.routes.specs.invariant.Ghosts.{Ghost, Row, heads, calm, limbo}
 use Rattle.routes.specs.invariant.Memories.{RowOk, Sight, Core}

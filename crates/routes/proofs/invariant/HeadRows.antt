@@ -1,15 +1,15 @@
 -- A row of late stores to LIMBO_HEAD and LIMBO_TAIL hides nothing else.
 use mathlib.Core.Path.{_≡_, refl, sym, subst, _∙_}
-use mathlib.Core.Bool.{Bool, true, false}
+use mathlib.Core.Bool.{Bool, false}
 use mathlib.Core.List.{List}
-use Prim.Native.Nat.{ℕ, _+_, _<_, _≤_}
+use Prim.Native.Nat.{ℕ, _+_, _≤_}
 use native.Mathlib.Omega.{arith}
 use lib.Dec.{T}
-use Rattle.routes.specs.Memory.{Mem, Store, sees, counted, stored, noneTo}
+use Rattle.routes.specs.Memory.{Mem, sees, counted, stored, noneTo}
 use Rattle.routes.specs.Routes.{Route}
 use Rattle.routes.specs.late.Rows.{AllRow, OnlyLate}
 use Rattle.routes.specs.late.View.{masked, view}
-use Rattle.routes.specs.invariant.Ghosts.{Ghost, Row, heads, calm}
+use Rattle.routes.specs.invariant.Ghosts.{Ghost, heads, calm}
 use Rattle.routes.specs.invariant.Memories.{HeadStore, CalmStore, RowOk, Core}
 use Rattle.routes.proofs.late.Rows.{all-weaker, all-end, none-to}
 use Rattle.routes.proofs.late.Only.{row-stored, only-none-to}

@@ -3,11 +3,11 @@ use mathlib.Core.Path.{_≡_, refl, sym, ap, subst, _∙_}
 use mathlib.Core.Bool.{Bool, false}
 use mathlib.Core.List.{List, [], _∷_}
 use mathlib.Core.Logic.{inl, inr}
-use Prim.Native.Nat.{ℕ, _+_, _<_, _≤_}
+use Prim.Native.Nat.{ℕ, _+_, _≤_}
 use native.Mathlib.Omega.{arith}
 use Rattle.std.proofs.shelf.Tests.{cases-lt, ne-eqb}
 use Rattle.routes.specs.Memory.{setVal}
-use Rattle.routes.specs.counts.Counts.{bit, cnt}
+use Rattle.routes.specs.counts.Counts.{cnt}
 use Rattle.routes.specs.invariant.Ghosts.{Ghost, heads}
 use Rattle.routes.specs.invariant.Memories.{Chain, lastFrom, Sight}
 use Rattle.routes.proofs.invariant.Chains.{chain-header, chain-real, chain-rest, last-rest}

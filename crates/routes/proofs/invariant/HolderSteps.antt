@@ -1,9 +1,9 @@
 -- A step of the lock's holder that keeps it: what is shown of it by the registers that follow, and that it is a turn.
-use mathlib.Core.Path.{_≡_, refl, sym, ap, subst, _∙_}
+use mathlib.Core.Path.{_≡_, refl, sym, ap, subst}
 use mathlib.Core.Bool.{true}
 use mathlib.Core.List.{List, [], _∷_}
 use mathlib.Core.Logic.{_⊎_, inl, inr}
-use Prim.Native.Nat.{ℕ, suc, _+_, _<_, _≤_}
+use Prim.Native.Nat.{ℕ, _<_, _≤_}
 use native.Mathlib.Omega.{arith}
 use lib.Dec.{T}
 use lib.ListN.{length}
@@ -102,7 +102,7 @@ module _ {m : Mem} {k : Lock} {g : Ghost} {trail : ℕ → List ℕ} {s : State}
 -- Such a step is a turn, in which a hidden step may have been taken before.
 pub step-turn : {m : Mem} {g : Ghost} {trail : ℕ → List ℕ} {s : State} {t : ℕ} {c : Cpus} {p cpus blocks : ℕ} {es : List Event} {s' : State} {m' : Mem} (own : List ℕ) (work : Work) →
     Inv m (lockOf p true) g trail s t c → Alike p s s' → Run cpus blocks es s' → T (young (s' .now' p)) → m' .cpus ≡ m .cpus → length own ≡ 4096 →
-    HolderStep m (lockOf p true) g trail (s .table) t (s' .now' p) m' own work → Turn m' t (setCpu p work own c) cpus blocks (Turned p ∷ es)
+    HolderStep m (lockOf p true) g trail (s .table) t (s' .now' p) m' own work → Turn m' t (setCpu p work own c) cpus blocks (Turned p ∷ es) p s
 unfolding holds Writer passed
 step-turn own Idle i a r y same room n = absurd (false≢true (n .holding))
 step-turn own (Looking l) i a r y same room n = absurd (false≢true (n .holding))

@@ -1,8 +1,8 @@
 -- What an update needs: at most 72 blocks, and how its pieces come to a table.
-use mathlib.Core.Path.{_≡_, refl, sym, ap, _∙_}
+use mathlib.Core.Path.{_≡_, ap}
 use mathlib.Core.Bool.{true, false, _||_}
 use mathlib.Core.List.{List, []}
-use Prim.Native.Nat.{ℕ, _+_, _*_, _<_, _≤_}
+use Prim.Native.Nat.{ℕ, _<_, _≤_}
 use native.Mathlib.Omega.{arith}
 use lib.Dec.{eqb, ltb}
 use lib.ListN.{length}
@@ -11,8 +11,7 @@ use Rattle.std.proofs.shelf.Ways.{tells}
 use Rattle.routes.specs.declared.Piece.{Piece}
 use Rattle.routes.specs.declared.update.job.Job.{Job}
 use Rattle.routes.specs.Routes.{Route, Table, pieces, tooMuch}
-use Rattle.routes.specs.counts.Counts.{bit, cnt, seg}
-use Rattle.routes.specs.tree.Trees.{count}
+use Rattle.routes.specs.counts.Counts.{cnt}
 use Rattle.routes.specs.tree.Walks.{Good}
 use Rattle.routes.specs.invariant.Ghosts.{Ghost}
 use Rattle.routes.specs.invariant.Holders.{Sure, AllUsed, gotBlocks}

@@ -1,15 +1,14 @@
 -- The turns of Obtain: a block is got, there is none, or what was got goes back.
 use mathlib.Core.Path.{_≡_, refl, sym, ap, subst, _∙_}
 use mathlib.Core.Bool.{true, false}
-use mathlib.Core.List.{List, []}
+use mathlib.Core.List.{List}
 use Prim.Native.Nat.{ℕ, suc, _+_, _-_, _<_, _≤_}
 use native.Mathlib.Omega.{arith}
-use lib.Dec.{eqb}
-use lib.ListN.{length, set}
+use lib.ListN.{length}
 use Rattle.own.specs.Layout.{wordsOf, freshAt}
 use Rattle.words.proofs.Packing.{child-same}
 use Rattle.routes.specs.declared.update.job.Job.{Job}
-use Rattle.routes.specs.declared.update.obtain.Obtain.the-variants.{Get, Undo, Full}
+use Rattle.routes.specs.declared.update.obtain.Obtain.the-variants.{Get, Undo}
 use Rattle.routes.specs.declared.update.recycle.Recycle.the-variants.{Head}
 use Rattle.routes.specs.declared.update.Phase.the-variants.{Obtain as InObtain, Recycle as InRecycle}
 use Rattle.routes.specs.declared.work.Work.the-variants.{Update as Updating}
@@ -20,7 +19,7 @@ use Rattle.routes.specs.late.Steps.{obtained}
 use Rattle.routes.specs.machine.Cpus.{workOfUpdate}
 use Rattle.routes.specs.machine.Jobs.{having}
 use Rattle.routes.specs.machine.Obtains.{freshIn, obtainAfter, obtainWords}
-use Rattle.routes.specs.invariant.Ghosts.{Ghost, heads, limbo}
+use Rattle.routes.specs.invariant.Ghosts.{Ghost, heads}
 use Rattle.routes.specs.invariant.Holders.{gotBlocks}
 use Rattle.routes.specs.invariant.Gathering.{Gathers, Undoes, ObtainFacts, RecycleFacts}
 use Rattle.routes.specs.invariant.Registers.{holds, holdsIn, passed, passedIn, passedRecycle}

@@ -3,16 +3,15 @@ use mathlib.Core.Path.{_≡_, refl, sym, ap, subst, _∙_}
 use mathlib.Core.Bool.{Bool, true, false}
 use mathlib.Core.List.{List, [], _∷_}
 use mathlib.Core.Logic.{inl, inr}
-use Prim.Native.Nat.{ℕ, suc, _+_, _-_, _<_, _≤_}
+use Prim.Native.Nat.{ℕ, _+_, _<_, _≤_}
 use native.Mathlib.Omega.{arith}
 use lib.Dec.{eqb, ltb}
 use Rattle.std.proofs.shelf.Ways.{tells, eqb-tells}
-use Rattle.std.proofs.shelf.Tests.{cases-bool, cases-lt, eq-eqb, ne-eqb, lt-ltb, le-ltb, true≢false}
+use Rattle.std.proofs.shelf.Tests.{cases-bool, cases-lt, eq-eqb, lt-ltb, le-ltb, true≢false}
 use Rattle.own.specs.Layout.{wordsOf, freshAt}
-use Rattle.words.specs.Slots.{childOf}
 use Rattle.words.proofs.Packing.{child-same}
 use Rattle.routes.specs.declared.update.job.Job.{Job}
-use Rattle.routes.specs.declared.update.finish.Finish.the-variants.{Unused, Unlock}
+use Rattle.routes.specs.declared.update.finish.Finish.the-variants.{Unused}
 use Rattle.routes.specs.declared.update.reclaim.Reclaim.the-variants.{Head, RetiredAt, Next, SetHead, SetTail, Release}
 use Rattle.routes.specs.declared.update.scan.GracePeriod.{GracePeriod}
 use Rattle.routes.specs.declared.update.Phase.{Phase}
@@ -37,13 +36,13 @@ use Rattle.routes.specs.invariant.Inv.{Inv, Lock, Cpus}
 use Rattle.routes.proofs.invariant.Rely.{Leaves, leaves-same}
 use Rattle.routes.proofs.invariant.Apart.{used-small}
 use Rattle.routes.proofs.invariant.Chains.{chain-rest, chain-none}
-use Rattle.routes.proofs.invariant.HeadRows.{HeadsRow, heads-row}
+use Rattle.routes.proofs.invariant.HeadRows.{heads-row}
 use Rattle.routes.proofs.invariant.HeadCores.{regroup, core-set, core-release, leaves-regroup}
 use Rattle.routes.proofs.invariant.HeadSights.{sight-head, sight-tail, last-kept}
 use Rattle.routes.proofs.invariant.FreshBlocks.{rest-less, rest-first}
 use Rattle.routes.proofs.invariant.Holding.{core-counted}
-use Rattle.routes.proofs.invariant.HolderSteps.{HolderStep, Scanned, facts-at, scanned-at, off-trail, loads}
-use Rattle.routes.proofs.invariant.Recycles.{oldest-in, follower-fits, stamp-seen, head-none, head-oldest, head-fits}
+use Rattle.routes.proofs.invariant.HolderSteps.{HolderStep, facts-at, scanned-at, off-trail, loads}
+use Rattle.routes.proofs.invariant.Recycles.{follower-fits, stamp-seen, head-oldest, head-fits}
 
 -- Where nothing is left to reclaim, the rest of the fresh blocks goes back, or the update is over.
 finishes-on : {m : Mem} {k : Lock} {g : Ghost} {trail : ℕ → List ℕ} {rs : List Route} {t : ℕ} {n : Now} {m' : Mem} {own : List ℕ} (g' : Ghost) (j : Job) → Core m' (k .who) (k .held) g' rs t → ((q : ℕ) → Leaves m g m' g' (trail q) q) →

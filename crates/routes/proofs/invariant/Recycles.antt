@@ -3,10 +3,10 @@ use mathlib.Core.Path.{_≡_, refl, sym, ap, subst, _∙_}
 use mathlib.Core.Bool.{Bool, true, false}
 use mathlib.Core.List.{List, [], _∷_}
 use mathlib.Core.Logic.{inl, inr}
-use Prim.Native.Nat.{ℕ, suc, _+_, _^_, _<_, _≤_}
+use Prim.Native.Nat.{ℕ, _+_, _<_, _≤_}
 use native.Mathlib.Omega.{arith}
 use lib.Dec.{eqb}
-use lib.ListN.{length, set}
+use lib.ListN.{length}
 use Rattle.std.proofs.shelf.Ways.{tells, eqb-tells}
 use Rattle.std.proofs.shelf.Tests.{eq-eqb, ne-eqb, true≢false}
 use Rattle.words.specs.Slots.{childOf}
@@ -15,8 +15,7 @@ use Rattle.routes.specs.declared.Answer.the-variants.{Full as FullAnswer}
 use Rattle.routes.specs.declared.update.job.Job.{Job}
 use Rattle.routes.specs.declared.update.recycle.Recycle.the-variants.{Head, RetiredAt, Next, SetHead, SetTail}
 use Rattle.routes.specs.declared.update.scan.GracePeriod.{GracePeriod}
-use Rattle.routes.specs.declared.update.scan.Scan.the-variants.{ForNode}
-use Rattle.routes.specs.declared.update.Phase.the-variants.{Recycle as InRecycle, Scan as InScan}
+use Rattle.routes.specs.declared.update.Phase.the-variants.{Recycle as InRecycle}
 use Rattle.routes.specs.declared.work.Work.the-variants.{Update as Updating}
 use Rattle.routes.specs.Memory.{Mem, sees, counted, stored}
 use Rattle.routes.specs.Routes.{Now, State, tooMuch}
@@ -24,21 +23,20 @@ use Rattle.routes.specs.counts.Counts.{bit, cnt}
 use Rattle.routes.specs.late.View.{view}
 use Rattle.routes.specs.machine.Cpus.{workOfUpdate}
 use Rattle.routes.specs.machine.Jobs.{having}
-use Rattle.routes.specs.machine.Obtains.{undoing}
-use Rattle.routes.specs.machine.Recycles.{recycleAfter, recycleWords, oldest, unlinked}
-use Rattle.routes.specs.invariant.Ghosts.{Ghost, heads, limbo}
+use Rattle.routes.specs.machine.Recycles.{recycleAfter, recycleWords, oldest}
+use Rattle.routes.specs.invariant.Ghosts.{Ghost, heads}
 use Rattle.routes.specs.invariant.Memories.{Chain, Core}
 use Rattle.routes.specs.invariant.Readers.{Settled}
 use Rattle.routes.specs.invariant.Holders.{Oldest, AllUsed, gotBlocks}
-use Rattle.routes.specs.invariant.Gathering.{Gathered, Gathers, RecycleFacts, Stands}
+use Rattle.routes.specs.invariant.Gathering.{Gathered, Gathers, RecycleFacts}
 use Rattle.routes.specs.invariant.Registers.{holds, holdsIn, passed, passedIn, passedRecycle, passedScan}
-use Rattle.routes.specs.invariant.Writers.{Writer, PhaseFacts, ScanFacts, hallOf}
+use Rattle.routes.specs.invariant.Writers.{Writer, PhaseFacts, ScanFacts}
 use Rattle.routes.specs.invariant.Inv.{Inv, Lock, Cpus}
 use Rattle.routes.proofs.late.View.{open-block, view-open}
 use Rattle.routes.proofs.invariant.Rely.{Leaves, leaves-same}
 use Rattle.routes.proofs.invariant.Apart.{solid, used-small}
 use Rattle.routes.proofs.invariant.Chains.{chain-first, chain-rest, chain-none}
-use Rattle.routes.proofs.invariant.HeadRows.{HeadsRow, heads-row}
+use Rattle.routes.proofs.invariant.HeadRows.{heads-row}
 use Rattle.routes.proofs.invariant.HeadCores.{regroup, core-set, leaves-regroup}
 use Rattle.routes.proofs.invariant.HeadSights.{sight-head, sight-tail, last-kept}
 use Rattle.routes.proofs.invariant.FreshBlocks.{more, got-more, pending-more}

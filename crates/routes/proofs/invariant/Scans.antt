@@ -1,23 +1,21 @@
 -- The turns of Scan: it stands at a lookup, or has passed one more processor.
-use mathlib.Core.Path.{_≡_, refl, sym, ap, subst, _∙_}
-use mathlib.Core.Bool.{true, false, cond}
+use mathlib.Core.Path.{_≡_, refl, sym, subst, _∙_}
+use mathlib.Core.Bool.{false, cond}
 use mathlib.Core.List.{List}
 use mathlib.Core.Logic.{_⊎_, inl, inr}
 use Prim.Native.Nat.{ℕ, suc, _+_, _-_, _<_, _≤_}
 use native.Mathlib.Omega.{arith}
-use lib.Dec.{eqb, ltb}
+use lib.Dec.{ltb}
 use Rattle.std.proofs.shelf.Ways.{tells, eqb-tells}
 use Rattle.std.proofs.shelf.Tests.{cases-bool, cases-lt, lt-ltb, le-ltb}
 use Rattle.routes.specs.declared.update.job.Job.{Job}
-use Rattle.routes.specs.declared.update.reclaim.Reclaim.the-variants.{Head}
-use Rattle.routes.specs.declared.update.recycle.Recycle.the-variants.{Next}
 use Rattle.routes.specs.declared.update.scan.Scan.the-variants.{ForNode, ForLimit}
-use Rattle.routes.specs.declared.update.Phase.the-variants.{Scan as InScan, Recycle as InRecycle, Reclaim as InReclaim}
+use Rattle.routes.specs.declared.update.Phase.the-variants.{Scan as InScan}
 use Rattle.routes.specs.declared.work.Work.the-variants.{Update as Updating}
 use Rattle.routes.specs.Memory.{Mem, sees, counted}
 use Rattle.routes.specs.Routes.{State}
 use Rattle.routes.specs.counts.Counts.{cnt}
-use Rattle.routes.specs.machine.Scans.{grace, announcedBefore, passedFor, passedWith, scanAfter}
+use Rattle.routes.specs.machine.Scans.{announcedBefore, passedFor, passedWith, scanAfter}
 use Rattle.routes.specs.invariant.Ghosts.{Ghost, heads, limbo}
 use Rattle.routes.specs.invariant.Gathering.{Stands, RecycleFacts}
 use Rattle.routes.specs.invariant.Retiring.{Reclaims, ReclaimFacts}

@@ -72,7 +72,7 @@ module _ {m : Mem} {g : Ghost} {trail : ℕ → List ℕ} {s : State} {t : ℕ} 
         record { ok = (f .wants', need-few (f .gathered .sure)); room = holder-room i; may = (left, mine, holder-small i) }
     obtain-ready Undo e = let f = holder-facts i j (InObtain Undo) e in
         record { ok = (f .1, f .0 .few); room = holder-room i
-          ; may = rw (undo-block i j (holder-room i) e) (release-used (wordsOf o (freshAt (j .got - 1))) (f .0 .has .row)
+          ; may = rw (undo-block i j e) (release-used (wordsOf o (freshAt (j .got - 1))) (f .0 .has .row)
               (let z : 1 ≤ cnt (wordsOf o (freshAt (j .got - 1))) (g .fresh) = subst (λ l. 1 ≤ cnt (wordsOf o (freshAt (j .got - 1))) l) (sym (f .0 .has .fresh)) (got-last o j (f .1)) in omega arith)) }
     obtain-ready Full e = record { ok = tt; room = holder-room i; may = touch-header 0 (omega arith) }
 

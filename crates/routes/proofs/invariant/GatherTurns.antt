@@ -70,19 +70,19 @@ module _ {m : Mem} {g : Ghost} {trail : ℕ → List ℕ} {s : State} {t : ℕ} 
   Goes ph x n = TurnOn t c p s (updateWords j ph o x) (updateAfter (m .cpus) j ph o x) cpus blocks es n
 
   -- A step that needs no hidden one.
-  goes : {n m' : Mem} (own : List ℕ) (next : UpdateNext) → Arrives m' n → m' .cpus ≡ m .cpus → length own ≡ 4096 → HolderStep m (lockOf p true) g trail (s .table) t (s .now' p) m' own (workOfUpdate next) →
+  goes : {n m' : Mem} (own : List ℕ) (next : UpdateNext) → Arrives m' n → m' .cpus ≡ m .cpus → length own ≡ 4096 → HolderStep m p g trail (s .table) t (s .now' p) m' own (workOfUpdate next) →
       TurnOn t c p s own next cpus blocks es n
   goes own next a same room h = record { turn = turn-arrives a (step-turn own (workOfUpdate next) i (alike-same p s) r y same room h); untold = none-told next (h .holding) }
 
   -- Get: a block, or none.
   pub get-turn : (x : ℕ) (n : Mem) → c .work p ≡ Updating j (InObtain Get) → Did p (updateAct p j (InObtain Get) o) m x n → Goes (InObtain Get) x n
-  get-turn zero n e d = let a = obtains-none d in goes o _ (a .1) refl (holder-room i) (get-none i j (holder-room i) e (a .0))
+  get-turn zero n e d = let a = obtains-none d in goes o _ (a .1) refl (holder-room i) (get-none i j e (a .0))
   get-turn (suc b) n e d = let a = obtains-some d in
-      goes _ _ (a .arrives) refl (room-more o j b (holder-room i) (got-few i j (holder-room i) e)) (get-step i j (holder-room i) e b (a .words) (a .inside) (a .free) (a .same))
+      goes _ _ (a .arrives) refl (room-more o j b (holder-room i) (got-few i j e)) (get-step i j e b (a .words) (a .inside) (a .free) (a .same))
 
   -- Undo.
   pub undo-turn : (x : ℕ) (n : Mem) → c .work p ≡ Updating j (InObtain Undo) → Did p (updateAct p j (InObtain Undo) o) m x n → Goes (InObtain Undo) x n
-  undo-turn x n e d = goes o _ (d .1) refl (holder-room i) (undo-step i j (holder-room i) e)
+  undo-turn x n e d = goes o _ (d .1) refl (holder-room i) (undo-step i j e)
 
   -- Where nothing is retired, the update is told full: it takes effect in this turn.
   full-turn : blocks ≡ m .blocks → (n : Mem) → c .work p ≡ Updating j (InRecycle OldHead) → sees p 0 3 m ≡ 0 → Arrives (counted m) n → Goes (InRecycle OldHead) (sees p 0 3 m) n
@@ -92,7 +92,7 @@ module _ {m : Mem} {g : Ghost} {trail : ℕ → List ℕ} {s : State} {t : ℕ} 
       ; untold = none-told (updateAfter (m .cpus) j (InRecycle OldHead) o (sees p 0 3 m)) (undoes .holding) }
     where
       f : Gathered g o (s .table) (s .now' p) j
-      f = head-facts i j (holder-room i) e .0 .gathered
+      f = head-facts i j e .0 .gathered
       count : ℕ
       count = f .awaits .0
       age : ℕ
@@ -102,9 +102,9 @@ module _ {m : Mem} {g : Ghost} {trail : ℕ → List ℕ} {s : State} {t : ℕ} 
       settled : State
       settled = settledAt p (Change count) FullAnswer age (s .table) s
       run' : Run cpus blocks es settled
-      run' = settle-full r p count (f .ps) age (f .qs) is (f .sure .makes) (rw size (head-full i j (holder-room i) e z))
-      undoes : HolderStep m (lockOf p true) g trail (s .table) t (settled .now' p) (counted m) o (workOfUpdate (updateAfter (m .cpus) j (InRecycle OldHead) o (sees p 0 3 m)))
-      undoes = full-step i j (holder-room i) e (settled .now' p) (count, age, now-own p (Over (Change count) FullAnswer age) (s .table) s) z
+      run' = settle-full r p count (f .ps) age (f .qs) is (f .sure .makes) (rw size (head-full i j e z))
+      undoes : HolderStep m p g trail (s .table) t (settled .now' p) (counted m) o (workOfUpdate (updateAfter (m .cpus) j (InRecycle OldHead) o (sees p 0 3 m)))
+      undoes = full-step i j e (settled .now' p) (count, age, now-own p (Over (Change count) FullAnswer age) (s .table) s) z
       soon : T (young (settled .now' p))
       soon = rw (now-own p (Over (Change count) FullAnswer age) (s .table) s) (rw is at y)
 
@@ -112,11 +112,11 @@ module _ {m : Mem} {g : Ghost} {trail : ℕ → List ℕ} {s : State} {t : ℕ} 
   pub recycle-turn : blocks ≡ m .blocks → (st : Recycle) (x : ℕ) (n : Mem) → c .work p ≡ Updating j (InRecycle st) → Did p (updateAct p j (InRecycle st) o) m x n → Goes (InRecycle st) x n
   recycle-turn size OldHead x n e d = subst (λ z. Goes (InRecycle OldHead) z n) (sym (d .0)) (elim (eqb-tells (sees p 0 3 m) 0) [
         inl z ↦ full-turn size n e (z .1) (d .1)
-      | inr z ↦ goes o _ (d .1) refl (holder-room i) (head-step i j (holder-room i) e (z .1)) ])
-  recycle-turn size (OldAt b) x n e d = subst (λ z. Goes (InRecycle (OldAt b)) z n) (sym (d .0)) (goes o _ (d .1) refl (holder-room i) (retired-at-step i j (holder-room i) b e))
-  recycle-turn size (OldNext b grace) x n e d = subst (λ z. Goes (InRecycle (OldNext b grace)) z n) (sym (d .0)) (goes o _ (d .1) refl (holder-room i) (next-step i j (holder-room i) b grace e))
-  recycle-turn size (OldSetHead b next grace) x n e d = goes _ _ (d .1) refl (room-more o j b (holder-room i) (reuse-few i j (holder-room i) b next grace e)) (set-head-step i j (holder-room i) b next grace e)
-  recycle-turn size OldSetTail x n e d = goes o _ (d .1) refl (holder-room i) (set-tail-step i j (holder-room i) e)
+      | inr z ↦ goes o _ (d .1) refl (holder-room i) (head-step i j e (z .1)) ])
+  recycle-turn size (OldAt b) x n e d = subst (λ z. Goes (InRecycle (OldAt b)) z n) (sym (d .0)) (goes o _ (d .1) refl (holder-room i) (retired-at-step i j b e))
+  recycle-turn size (OldNext b grace) x n e d = subst (λ z. Goes (InRecycle (OldNext b grace)) z n) (sym (d .0)) (goes o _ (d .1) refl (holder-room i) (next-step i j b grace e))
+  recycle-turn size (OldSetHead b next grace) x n e d = goes _ _ (d .1) refl (room-more o j b (holder-room i) (reuse-few i j b next grace e)) (set-head-step i j b next grace e)
+  recycle-turn size OldSetTail x n e d = goes o _ (d .1) refl (holder-room i) (set-tail-step i j e)
 
   -- Scan.
   pub scan-turn : (st : Scan) (x : ℕ) (n : Mem) → c .work p ≡ Updating j (InScan st) → Did p (updateAct p j (InScan st) o) m x n → Goes (InScan st) x n

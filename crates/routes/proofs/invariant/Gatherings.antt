@@ -1,6 +1,6 @@
 -- One block more is there: on to the next, or to Build.
 use mathlib.Core.Path.{_≡_, refl}
-use mathlib.Core.Bool.{false}
+use mathlib.Core.Bool.{true, false}
 use mathlib.Core.List.{List}
 use mathlib.Core.Logic.{inl, inr}
 use Prim.Native.Nat.{ℕ}
@@ -17,15 +17,14 @@ use Rattle.routes.specs.invariant.Gathering.{Gathered, Undoes, ObtainFacts}
 use Rattle.routes.specs.invariant.Building.{BuildFacts}
 use Rattle.routes.specs.invariant.Registers.{holds, holdsIn, passed, passedIn}
 use Rattle.routes.specs.invariant.Writers.{Writer, PhaseFacts}
-use Rattle.routes.specs.invariant.Inv.{Lock}
 use Rattle.routes.proofs.invariant.Rely.{Leaves}
 use Rattle.routes.proofs.invariant.HeadCores.{calmed, core-calm}
 use Rattle.routes.proofs.invariant.HolderSteps.{HolderStep}
 
-module _ {m : Mem} {k : Lock} {g : Ghost} {trail : ℕ → List ℕ} {rs : List Route} {t : ℕ} {n : Now} {m' : Mem} {own : List ℕ} (g' : Ghost) (j : Job)
-         (core : Core m' (k .who) (k .held) g' rs t) (leaves : (q : ℕ) → Leaves m g m' g' (trail q) q) where
+module _ {m : Mem} {p : ℕ} {g : Ghost} {trail : ℕ → List ℕ} {rs : List Route} {t : ℕ} {n : Now} {m' : Mem} {own : List ℕ} (g' : Ghost) (j : Job)
+         (core : Core m' p true g' rs t) (leaves : (q : ℕ) → Leaves m g m' g' (trail q) q) where
   -- Where one more is wanted it goes on, else it builds, and any calm store may be late.
-  pub gathers-on : Gathered g' own rs n j → g' .torn ≡ false → HolderStep m k g trail rs t n m' own (workOfUpdate (gathering j))
+  pub gathers-on : Gathered g' own rs n j → g' .torn ≡ false → HolderStep m p g trail rs t n m' own (workOfUpdate (gathering j))
   unfolding Writer PhaseFacts ObtainFacts BuildFacts holds holdsIn passed passedIn
   gathers-on f whole = elim (cases-lt (j .got) (j .need)) [
         inl l ↦ rw (lt-ltb (j .got) (j .need) l) (record
@@ -37,7 +36,7 @@ module _ {m : Mem} {k : Lock} {g : Ghost} {trail : ℕ → List ℕ} {rs : List 
           ; scanned = λ q b i. absurd (omega arith); holding = refl }) ]
 
   -- What was got goes back, one by one.
-  pub undoes-on : Undoes g' own n j → HolderStep m k g trail rs t n m' own (workOfUpdate (undoing j))
+  pub undoes-on : Undoes g' own n j → HolderStep m p g trail rs t n m' own (workOfUpdate (undoing j))
   unfolding Writer PhaseFacts ObtainFacts holds holdsIn passed passedIn
   undoes-on f = elim (cases-lt 0 (j .got)) [
         inl l ↦ rw (lt-ltb 0 (j .got) l) (record

@@ -20,11 +20,11 @@ use Rattle.routes.specs.late.View.{view}
 use Rattle.routes.specs.invariant.Ghosts.{Ghost, limbo}
 use Rattle.routes.specs.invariant.Memories.{Core}
 use Rattle.routes.specs.invariant.Readers.{LooksUp, Does}
-use Rattle.routes.specs.invariant.Registers.{loaded, loadedIn, announced, announcedIn, holds, passed, passedBy}
+use Rattle.routes.specs.invariant.Registers.{loaded, loadedIn, announced, announcedIn, holds, passed, passedIn, passedBy}
 use Rattle.routes.specs.invariant.Writers.{Writer, PhaseFacts, hallOf}
-use Rattle.routes.specs.invariant.Inv.{Inv, Lock, Cpus}
+use Rattle.routes.specs.invariant.Inv.{Inv, Cpus}
 use Rattle.routes.proofs.invariant.Rely.{Leaves, leaves-same}
-use Rattle.routes.proofs.invariant.Holding.{core-counted, hold-turn}
+use Rattle.routes.proofs.invariant.Holding.{core-counted, hold-turn, holder-scanned}
 use Rattle.routes.proofs.invariant.Alike.{Alike}
 use Rattle.routes.proofs.invariant.Steps.{lockOf, setCpu, Turn}
 
@@ -32,12 +32,12 @@ use Rattle.routes.proofs.invariant.Steps.{lockOf, setCpu, Turn}
 abbrev pub Scanned : ℕ → Ghost → (ℕ → List ℕ) → Work → Type 0
 Scanned cpus g trail work = (q b : ℕ) → q < passed cpus work .many → 1 ≤ cnt b (trail q) → 1 ≤ limbo g b → passed cpus work .limit ≤ g .stamps b
 
--- after it the memory is m', and the holder has these own words and registers; n is its change then
-pub record HolderStep (m : Mem) (k : Lock) (g : Ghost) (trail : ℕ → List ℕ) (rs : List Route) (t : ℕ) (n : Now) (m' : Mem) (own : List ℕ) (work : Work) : Type 0 where
+-- after it the memory is m', and the holder p has these own words and registers; n is its change then
+pub record HolderStep (m : Mem) (p : ℕ) (g : Ghost) (trail : ℕ → List ℕ) (rs : List Route) (t : ℕ) (n : Now) (m' : Mem) (own : List ℕ) (work : Work) : Type 0 where
   pub ghost : Ghost
-  pub core : Core m' (k .who) (k .held) ghost rs t
+  pub core : Core m' p true ghost rs t
   pub leaves : (q : ℕ) → Leaves m g m' ghost (trail q) q
-  pub facts : Writer (view (k .who) m') (hallOf m') ghost own rs n work
+  pub facts : Writer (view p m') (hallOf m') ghost own rs n work
   pub scanned : Scanned (m .cpus) ghost trail work
   pub holding : holds work ≡ true
 
@@ -63,16 +63,7 @@ announced-loaded (Looking (Node a x l b best)) = omega arith
 announced-loaded (Looking (Leave x best)) = omega arith
 announced-loaded (Updating j s) = omega arith
 
-module _ {m : Mem} {k : Lock} {g : Ghost} {trail : ℕ → List ℕ} {s : State} {t : ℕ} {c : Cpus} (i : Inv m k g trail s t c) where
-  -- What the holder's registers say.
-  pub facts-at : (j : Job) (p : Phase) → c .work (k .who) ≡ Updating j p → PhaseFacts (view (k .who) m) (hallOf m) g (c .own (k .who)) (s .table) (s .now' (k .who)) j p
-  unfolding Writer
-  facts-at j p e = subst (λ w. Writer (view (k .who) m) (hallOf m) g (c .own (k .who)) (s .table) (s .now' (k .who)) w) e (i .writer)
-
-  -- What its scan has passed.
-  pub scanned-at : (work : Work) → c .work (k .who) ≡ work → Scanned (m .cpus) g trail work
-  scanned-at work e = subst (Scanned (m .cpus) g trail) e (i .scanned)
-
+module _ {m : Mem} {g : Ghost} {trail : ℕ → List ℕ} {s : State} {t : ℕ} {c : Cpus} {p : ℕ} (i : Inv m (lockOf p true) g trail s t c) where
   -- Who has announced nothing, or an epoch not before the limit, will touch nothing that was retired before the limit.
   pub stand-past : (q limit b : ℕ) → (announced (c .work q) ≡ 0) ⊎ (limit < announced (c .work q)) → 1 ≤ cnt b (trail q) → 1 ≤ limbo g b → limit ≤ g .stamps b
   unfolding cnt
@@ -86,23 +77,23 @@ module _ {m : Mem} {k : Lock} {g : Ghost} {trail : ℕ → List ℕ} {s : State}
   outside-trail q l = no-trail _ (c .work q) _ (trail q) _ (ap announced (i .outside q l)) (i .readers q .does)
 
   -- After a whole scan nothing that was retired before its limit is on a trail.
-  pub off-trail : (work : Work) (limit b : ℕ) → c .work (k .who) ≡ work → passed (m .cpus) work ≡ passedBy (m .cpus) limit → 1 ≤ limbo g b → g .stamps b < limit → (q : ℕ) → 1 ≤ cnt b (trail q) → ⊥
+  pub off-trail : (j : Job) (ph : Phase) (limit b : ℕ) → c .work p ≡ Updating j ph → passedIn (m .cpus) ph ≡ passedBy (m .cpus) limit → 1 ≤ limbo g b → g .stamps b < limit → (q : ℕ) → 1 ≤ cnt b (trail q) → ⊥
   unfolding cnt
-  off-trail work limit b e whole f l q a = elim (cases-lt q (m .cpus)) [
-        inl small ↦ (let z : q < passed (m .cpus) work .many → limit ≤ g .stamps b = subst (λ p. q < passed (m .cpus) work .many → p .limit ≤ g .stamps b) whole (λ y. scanned-at work e q b y a f) in
-            let y : q < passed (m .cpus) work .many = subst (λ p. q < p .many) (sym whole) small in omega (arith, z y))
+  off-trail j ph limit b e whole f l q a = elim (cases-lt q (m .cpus)) [
+        inl small ↦ (let z : q < passedIn (m .cpus) ph .many → limit ≤ g .stamps b = subst (λ z. q < passedIn (m .cpus) ph .many → z .limit ≤ g .stamps b) whole (λ y. holder-scanned i j ph e q b y a f) in
+            let y : q < passedIn (m .cpus) ph .many = subst (λ z. q < z .many) (sym whole) small in omega (arith, z y))
       | inr large ↦ (let z : 1 ≤ cnt b [] = rw (outside-trail q large) at a in omega arith) ]
 
   -- A load, by which nothing changes but registers.
-  pub loads : (n : Now) (own : List ℕ) (work : Work) → Writer (view (k .who) m) (hallOf m) g own (s .table) n work → Scanned (m .cpus) g trail work → holds work ≡ true →
-      HolderStep m k g trail (s .table) t n (counted m) own work
+  pub loads : (n : Now) (own : List ℕ) (work : Work) → Writer (view p m) (hallOf m) g own (s .table) n work → Scanned (m .cpus) g trail work → holds work ≡ true →
+      HolderStep m p g trail (s .table) t n (counted m) own work
   unfolding view
   loads n own work f z h = record { ghost = g; core = core-counted (i .core); leaves = λ q. leaves-same g (trail q) q refl; facts = f; scanned = z; holding = h }
 
 -- Such a step is a turn, in which a hidden step may have been taken before.
 pub step-turn : {m : Mem} {g : Ghost} {trail : ℕ → List ℕ} {s : State} {t : ℕ} {c : Cpus} {p cpus blocks : ℕ} {es : List Event} {s' : State} {m' : Mem} (own : List ℕ) (work : Work) →
     Inv m (lockOf p true) g trail s t c → Alike p s s' → Run cpus blocks es s' → T (young (s' .now' p)) → m' .cpus ≡ m .cpus → length own ≡ 4096 →
-    HolderStep m (lockOf p true) g trail (s .table) t (s' .now' p) m' own work → Turn m' t (setCpu p work own c) cpus blocks (Turned p ∷ es) p s
+    HolderStep m p g trail (s .table) t (s' .now' p) m' own work → Turn m' t (setCpu p work own c) cpus blocks (Turned p ∷ es) p s
 unfolding holds Writer passed
 step-turn own Idle i a r y same room n = absurd (false≢true (n .holding))
 step-turn own (Looking l) i a r y same room n = absurd (false≢true (n .holding))

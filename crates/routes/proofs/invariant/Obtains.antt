@@ -4,7 +4,6 @@ use mathlib.Core.Bool.{true, false}
 use mathlib.Core.List.{List}
 use Prim.Native.Nat.{ℕ, suc, _+_, _-_, _<_, _≤_}
 use native.Mathlib.Omega.{arith}
-use lib.ListN.{length}
 use Rattle.own.specs.Layout.{wordsOf, freshAt}
 use Rattle.words.proofs.Packing.{child-same}
 use Rattle.routes.specs.declared.update.job.Job.{Job}
@@ -24,67 +23,66 @@ use Rattle.routes.specs.invariant.Holders.{gotBlocks}
 use Rattle.routes.specs.invariant.Gathering.{Gathers, Undoes, ObtainFacts, RecycleFacts}
 use Rattle.routes.specs.invariant.Registers.{holds, holdsIn, passed, passedIn, passedRecycle}
 use Rattle.routes.specs.invariant.Writers.{Writer, PhaseFacts}
-use Rattle.routes.specs.invariant.Inv.{Inv, Lock, Cpus}
+use Rattle.routes.specs.invariant.Inv.{Inv, Cpus}
 use Rattle.routes.proofs.invariant.Apart.{used-small}
 use Rattle.routes.proofs.invariant.HeadRows.{HeadsRow, heads-row}
 use Rattle.routes.proofs.invariant.HeadCores.{regroup, core-release, core-obtain, leaves-obtain, leaves-regroup}
 use Rattle.routes.proofs.invariant.FreshBlocks.{more, got-more, pending-more, got-less, got-last}
-use Rattle.routes.proofs.invariant.HolderSteps.{HolderStep, facts-at, loads}
+use Rattle.routes.proofs.invariant.Holding.{holder-facts, holder-room}
+use Rattle.routes.proofs.invariant.Steps.{lockOf}
+use Rattle.routes.proofs.invariant.HolderSteps.{HolderStep, loads}
 use Rattle.routes.proofs.invariant.Gatherings.{gathers-on, undoes-on}
 use Rattle.routes.proofs.invariant.Needs.{need-few}
 
-module _ {m : Mem} {k : Lock} {g : Ghost} {trail : ℕ → List ℕ} {s : State} {t : ℕ} {c : Cpus} (i : Inv m k g trail s t c) (j : Job) (room : length (c .own (k .who)) ≡ 4096) where
-  abbrev h : ℕ
-  h = k .who
-
+module _ {m : Mem} {g : Ghost} {trail : ℕ → List ℕ} {s : State} {t : ℕ} {c : Cpus} {p : ℕ} (i : Inv m (lockOf p true) g trail s t c) (j : Job) where
   abbrev o : List ℕ
-  o = c .own (k .who)
+  o = c .own p
 
-  module _ (e : c .work (k .who) ≡ Updating j (InObtain Get)) where
-    f : Gathers g o (s .table) (s .now' h) j
+  module _ (e : c .work p ≡ Updating j (InObtain Get)) where
+    f : Gathers g o (s .table) (s .now' p) j
     unfolding PhaseFacts ObtainFacts
-    f = facts-at i j (InObtain Get) e
+    f = holder-facts i j (InObtain Get) e
 
     -- There is room for one more among the own words.
     pub got-few : j .got < 72
     got-few = omega (arith, need-few (f .gathered .sure), f .wants')
 
-    row : HeadsRow h m
-    row = heads-row m h (k .held) g (s .table) t (i .core) (f .gathered .has .row)
+    row : HeadsRow p m
+    row = heads-row m p true g (s .table) t (i .core) (f .gathered .has .row)
 
     -- Block b is got, with any words in it.
     pub get-step : (b : ℕ) (words : ℕ → ℕ → ℕ) → b < m .blocks → m .held b ≡ false → ((d w : ℕ) → (d ≡ b → ⊥) → words d w ≡ m .val d w) →
-        HolderStep m k g trail (s .table) t (s .now' h) (counted (obtained b words m)) (obtainWords j Get o (suc b)) (workOfUpdate (obtainAfter j Get (suc b)))
+        HolderStep m p g trail (s .table) t (s .now' p) (counted (obtained b words m)) (obtainWords j Get o (suc b)) (workOfUpdate (obtainAfter j Get (suc b)))
     get-step b words inside free same =
-        gathers-on (regroup g (g .chain) (g .loose) (gotBlocks (more o j b room got-few) (having (j .got + 1) j)) (g .torn) heads) (having (j .got + 1) j)
-          (core-obtain (i .core) row b words inside free same _ (λ d. got-more o j b room got-few d ∙ (let z : cnt d (g .fresh) ≡ cnt d (gotBlocks o j) = ap (cnt d) (f .gathered .has .fresh) in omega arith)))
+        gathers-on (regroup g (g .chain) (g .loose) (gotBlocks (more o j b (holder-room i) got-few) (having (j .got + 1) j)) (g .torn) heads) (having (j .got + 1) j)
+          (core-obtain (i .core) row b words inside free same _ (λ d. got-more o j b (holder-room i) got-few d ∙ (let z : cnt d (g .fresh) ≡ cnt d (gotBlocks o j) = ap (cnt d) (f .gathered .has .fresh) in omega arith)))
           (λ q. leaves-obtain (i .core) row b words inside free same _ heads (trail q) q (i .readers q .safe))
           (record { has = record { row = refl; loose = f .gathered .has .loose; fresh = refl }; ps = f .gathered .ps; qs = f .gathered .qs; awaits = f .gathered .awaits
-            ; sure = record { pending = pending-more o j b room got-few (j .size) (f .gathered .ps) (f .gathered .sure .pending); makes = f .gathered .sure .makes; need = f .gathered .sure .need }
+            ; sure = record { pending = pending-more o j b (holder-room i) got-few (j .size) (f .gathered .ps) (f .gathered .sure .pending); makes = f .gathered .sure .makes; need = f .gathered .sure .need }
             ; enough = omega (arith, f .wants'); used = f .gathered .used; retired = f .gathered .retired })
           (f .whole)
 
     -- There is none: every block is in use.
-    pub get-none : ((b : ℕ) → b < m .blocks → m .held b ≡ true) → HolderStep m k g trail (s .table) t (s .now' h) (counted m) (obtainWords j Get o 0) (workOfUpdate (obtainAfter j Get 0))
+    pub get-none : ((b : ℕ) → b < m .blocks → m .held b ≡ true) → HolderStep m p g trail (s .table) t (s .now' p) (counted m) (obtainWords j Get o 0) (workOfUpdate (obtainAfter j Get 0))
     unfolding Writer PhaseFacts RecycleFacts holds holdsIn passed passedIn passedRecycle
-    get-none all = loads i (s .now' h) o (Updating j (InRecycle Head))
+    get-none all = loads i (s .now' p) o (Updating j (InRecycle Head))
         (f, λ b l. omega (arith, i .core .blocks b, ap bit (all b l)))
         (λ q b l. absurd (omega arith)) refl
 
-  module _ (e : c .work (k .who) ≡ Updating j (InObtain Undo)) where
-    undo : Undoes g o (s .now' h) j × (0 < j .got)
+  module _ (e : c .work p ≡ Updating j (InObtain Undo)) where
+    undo : Undoes g o (s .now' p) j × (0 < j .got)
     unfolding PhaseFacts ObtainFacts
-    undo = facts-at i j (InObtain Undo) e
+    undo = holder-facts i j (InObtain Undo) e
 
     -- The last of those got is the one that is given back.
     pub undo-block : freshIn o (j .got - 1) ≡ wordsOf o (freshAt (j .got - 1))
     undo-block = child-same _ (used-small (i .core) _ (let z : 1 ≤ cnt (wordsOf o (freshAt (j .got - 1))) (g .fresh) = subst (λ l. 1 ≤ cnt (wordsOf o (freshAt (j .got - 1))) l) (sym (undo .0 .has .fresh)) (got-last o j (undo .1)) in omega arith))
 
     -- It is given back.
-    pub undo-step : HolderStep m k g trail (s .table) t (s .now' h) (counted (released (freshIn o (j .got - 1)) m)) o (workOfUpdate (obtainAfter j Undo 0))
+    pub undo-step : HolderStep m p g trail (s .table) t (s .now' p) (counted (released (freshIn o (j .got - 1)) m)) o (workOfUpdate (obtainAfter j Undo 0))
     undo-step = rw undo-block
         (undoes-on (regroup g (g .chain) (g .loose) (gotBlocks o (having (j .got - 1) j)) (g .torn) heads) (having (j .got - 1) j)
-          (core-release (i .core) (heads-row m h (k .held) g (s .table) t (i .core) (undo .0 .has .row)) (wordsOf o (freshAt (j .got - 1))) (g .loose) _
+          (core-release (i .core) (heads-row m p true g (s .table) t (i .core) (undo .0 .has .row)) (wordsOf o (freshAt (j .got - 1))) (g .loose) _
             (λ d. (let z : cnt d (g .fresh) ≡ cnt d (gotBlocks o j) = ap (cnt d) (undo .0 .has .fresh) in omega (arith, got-less o j (undo .1) d))) (λ d. omega arith))
           (λ q. leaves-regroup m _ g (g .chain) (g .loose) _ (g .torn) heads (trail q) q refl (λ d a. refl))
           (record { has = record { row = refl; loose = undo .0 .has .loose; fresh = refl }; whole = undo .0 .whole; full = undo .0 .full; few = omega (arith, undo .0 .few) }))

@@ -32,7 +32,7 @@ use Rattle.routes.specs.invariant.Holders.{Oldest, restBlocks}
 use Rattle.routes.specs.invariant.Retiring.{Retires, Reclaims, ReclaimFacts, FinishFacts}
 use Rattle.routes.specs.invariant.Registers.{holds, holdsIn, passed, passedIn, passedReclaim}
 use Rattle.routes.specs.invariant.Writers.{Writer, PhaseFacts}
-use Rattle.routes.specs.invariant.Inv.{Inv, Lock, Cpus}
+use Rattle.routes.specs.invariant.Inv.{Inv, Cpus}
 use Rattle.routes.proofs.invariant.Rely.{Leaves, leaves-same}
 use Rattle.routes.proofs.invariant.Apart.{used-small}
 use Rattle.routes.proofs.invariant.Chains.{chain-rest, chain-none}
@@ -40,62 +40,60 @@ use Rattle.routes.proofs.invariant.HeadRows.{heads-row}
 use Rattle.routes.proofs.invariant.HeadCores.{regroup, core-set, core-release, leaves-regroup}
 use Rattle.routes.proofs.invariant.HeadSights.{sight-head, sight-tail, last-kept}
 use Rattle.routes.proofs.invariant.FreshBlocks.{rest-less, rest-first}
-use Rattle.routes.proofs.invariant.Holding.{core-counted}
-use Rattle.routes.proofs.invariant.HolderSteps.{HolderStep, facts-at, scanned-at, off-trail, loads}
+use Rattle.routes.proofs.invariant.Holding.{core-counted, holder-facts, holder-scanned}
+use Rattle.routes.proofs.invariant.Steps.{lockOf}
+use Rattle.routes.proofs.invariant.HolderSteps.{HolderStep, off-trail, loads}
 use Rattle.routes.proofs.invariant.Recycles.{follower-fits, stamp-seen, head-oldest, head-fits}
 
 -- Where nothing is left to reclaim, the rest of the fresh blocks goes back, or the update is over.
-finishes-on : {m : Mem} {k : Lock} {g : Ghost} {trail : ℕ → List ℕ} {rs : List Route} {t : ℕ} {n : Now} {m' : Mem} {own : List ℕ} (g' : Ghost) (j : Job) → Core m' (k .who) (k .held) g' rs t → ((q : ℕ) → Leaves m g m' g' (trail q) q) →
-    Reclaims g' own n j → HolderStep m k g trail rs t n m' own (Updating j (finishing j))
+finishes-on : {m : Mem} {p : ℕ} {g : Ghost} {trail : ℕ → List ℕ} {rs : List Route} {t : ℕ} {n : Now} {m' : Mem} {own : List ℕ} (g' : Ghost) (j : Job) → Core m' p true g' rs t → ((q : ℕ) → Leaves m g m' g' (trail q) q) →
+    Reclaims g' own n j → HolderStep m p g trail rs t n m' own (Updating j (finishing j))
 unfolding Writer PhaseFacts FinishFacts holds holdsIn passed passedIn
 finishes-on g' j core leaves f = elim (cases-lt (j .used) (j .got)) [
       inl l ↦ rw (lt-ltb (j .used) (j .got) l) (record { ghost = g'; core = core; leaves = leaves; facts = (f, l); scanned = λ q b i. absurd (omega arith); holding = refl })
     | inr l ↦ rw (le-ltb (j .used) (j .got) l) (record { ghost = g'; core = core; leaves = leaves; facts = (f, l); scanned = λ q b i. absurd (omega arith); holding = refl }) ]
 
-module _ {m : Mem} {k : Lock} {g : Ghost} {trail : ℕ → List ℕ} {s : State} {t : ℕ} {c : Cpus} (i : Inv m k g trail s t c) (j : Job) where
-  abbrev h : ℕ
-  h = k .who
-
+module _ {m : Mem} {g : Ghost} {trail : ℕ → List ℕ} {s : State} {t : ℕ} {c : Cpus} {p : ℕ} (i : Inv m (lockOf p true) g trail s t c) (j : Job) where
   abbrev o : List ℕ
-  o = c .own (k .who)
+  o = c .own p
 
   -- what follows by the reply is a step after which the memory is m'
   abbrev Goes : Mem → Phase → Type 0
-  Goes m' ph = HolderStep m k g trail (s .table) t (s .now' h) m' o (Updating j ph)
+  Goes m' ph = HolderStep m p g trail (s .table) t (s .now' p) m' o (Updating j ph)
 
   module _ (grace : GracePeriod) (left : ℕ) where
     -- A look at the head of limbo.
-    pub head-step : c .work (k .who) ≡ Updating j (InReclaim (Head grace left)) → Goes (counted m) (reclaimAfter j (Head grace left) (sees h 0 3 m))
+    pub head-step : c .work p ≡ Updating j (InReclaim (Head grace left)) → Goes (counted m) (reclaimAfter j (Head grace left) (sees p 0 3 m))
     unfolding Writer PhaseFacts ReclaimFacts holds holdsIn passed passedIn passedReclaim
-    head-step e = rw (head-fits i) (elim (eqb-tells (sees h 0 3 m) 0) [
+    head-step e = rw (head-fits i) (elim (eqb-tells (sees p 0 3 m) 0) [
           inl z ↦ rw (z .0) (finishes-on g j (core-counted (i .core)) (λ q. leaves-same g (trail q) q refl) f)
-        | inr z ↦ rw (z .0) (loads i (s .now' h) o _ (f, head-oldest i (z .1)) (scanned-at i _ e) refl) ])
+        | inr z ↦ rw (z .0) (loads i (s .now' p) o _ (f, head-oldest i (z .1)) (holder-scanned i _ _ e) refl) ])
       where
-        f : Reclaims g o (s .now' h) j
-        f = facts-at i j (InReclaim (Head grace left)) e
+        f : Reclaims g o (s .now' p) j
+        f = holder-facts i j (InReclaim (Head grace left)) e
 
     -- A look at its stamp.
-    pub retired-at-step : (b : ℕ) → c .work (k .who) ≡ Updating j (InReclaim (RetiredAt grace left b)) → Goes (counted m) (reclaimAfter j (RetiredAt grace left b) (sees h b 31 m))
+    pub retired-at-step : (b : ℕ) → c .work p ≡ Updating j (InReclaim (RetiredAt grace left b)) → Goes (counted m) (reclaimAfter j (RetiredAt grace left b) (sees p b 31 m))
     unfolding Writer PhaseFacts ReclaimFacts holds holdsIn passed passedIn passedReclaim
     retired-at-step b e = rw (stamp-seen i b (f .1)) (elim (cases-lt (g .stamps b) (grace .before)) [
-          inl l ↦ rw (lt-ltb _ _ l) (loads i (s .now' h) o _ (f .0, f .1, l) (scanned-at i _ e) refl)
+          inl l ↦ rw (lt-ltb _ _ l) (loads i (s .now' p) o _ (f .0, f .1, l) (holder-scanned i _ _ e) refl)
         | inr l ↦ rw (le-ltb _ _ l) (finishes-on g j (core-counted (i .core)) (λ q. leaves-same g (trail q) q refl) (f .0)) ])
       where
-        f : Reclaims g o (s .now' h) j × Oldest g b
-        f = facts-at i j (InReclaim (RetiredAt grace left b)) e
+        f : Reclaims g o (s .now' p) j × Oldest g b
+        f = holder-facts i j (InReclaim (RetiredAt grace left b)) e
 
     -- A look at what follows it.
-    pub next-step : (b : ℕ) → c .work (k .who) ≡ Updating j (InReclaim (Next grace left b)) → Goes (counted m) (reclaimAfter j (Next grace left b) (sees h b 32 m))
+    pub next-step : (b : ℕ) → c .work p ≡ Updating j (InReclaim (Next grace left b)) → Goes (counted m) (reclaimAfter j (Next grace left b) (sees p b 32 m))
     unfolding Writer PhaseFacts ReclaimFacts holds holdsIn passed passedIn passedReclaim
-    next-step b e = loads i (s .now' h) o _ (f .0, f .1, f .2, sym (follower-fits i b (f .1))) (scanned-at i _ e) refl
+    next-step b e = loads i (s .now' p) o _ (f .0, f .1, f .2, sym (follower-fits i b (f .1))) (holder-scanned i _ _ e) refl
       where
-        f : Reclaims g o (s .now' h) j × Oldest g b × (g .stamps b < grace .before)
-        f = facts-at i j (InReclaim (Next grace left b)) e
+        f : Reclaims g o (s .now' p) j × Oldest g b × (g .stamps b < grace .before)
+        f = holder-facts i j (InReclaim (Next grace left b)) e
 
-    module _ (b next : ℕ) (e : c .work (k .who) ≡ Updating j (InReclaim (SetHead grace left b next))) where
-      u : Reclaims g o (s .now' h) j × Oldest g b × (g .stamps b < grace .before) × (view h m b 32 ≡ next)
+    module _ (b next : ℕ) (e : c .work p ≡ Updating j (InReclaim (SetHead grace left b next))) where
+      u : Reclaims g o (s .now' p) j × Oldest g b × (g .stamps b < grace .before) × (view p m b 32 ≡ next)
       unfolding PhaseFacts ReclaimFacts
-      u = facts-at i j (InReclaim (SetHead grace left b next)) e
+      u = holder-facts i j (InReclaim (SetHead grace left b next)) e
 
       -- the node has left the chain
       abbrev cut : Bool → Ghost
@@ -105,52 +103,52 @@ module _ {m : Mem} {k : Lock} {g : Ghost} {trail : ℕ → List ℕ} {s : State}
       unfolding cnt
       same-limbo d = let x : cnt d (g .chain) ≡ bit (eqb d b) + cnt d (u .1 .0) = ap (cnt d) (u .1 .1) in let y : cnt d (g .loose) ≡ 0 = ap (cnt d) (u .0 .retires .has .loose) in omega arith
 
-      core' : (torn : Bool) → (torn ≡ false → next ≡ 0 → ⊥) → Core (counted (stored h 0 3 next m)) h (k .held) (cut torn) (s .table) t
-      core' torn real = core-set (i .core) (heads-row m h (k .held) g (s .table) t (i .core) (u .0 .retires .has .row)) 3 next (u .1 .0) (b ∷ []) (g .fresh) torn (omega arith) (omega arith)
+      core' : (torn : Bool) → (torn ≡ false → next ≡ 0 → ⊥) → Core (counted (stored p 0 3 next m)) p true (cut torn) (s .table) t
+      core' torn real = core-set (i .core) (heads-row m p true g (s .table) t (i .core) (u .0 .retires .has .row)) 3 next (u .1 .0) (b ∷ []) (g .fresh) torn (omega arith) (omega arith)
           (λ d. omega (arith, same-limbo d))
           (sight-head (i .core .sight) b next (u .1 .0) (b ∷ []) (g .fresh) torn (u .1 .1) (u .3) (λ w. last-kept (i .core .sight) b next (u .1 .0) (u .1 .1) (u .3) (real w) (u .0 .whole)) (λ d n. omega (arith, same-limbo d)))
 
-      leaves' : (torn : Bool) (q : ℕ) → Leaves m g (counted (stored h 0 3 next m)) (cut torn) (trail q) q
+      leaves' : (torn : Bool) (q : ℕ) → Leaves m g (counted (stored p 0 3 next m)) (cut torn) (trail q) q
       leaves' torn q = leaves-regroup m _ g (u .1 .0) (b ∷ []) (g .fresh) torn heads (trail q) q refl (λ d a. same-limbo d)
 
-      facts' : (torn : Bool) → Retires (cut torn) o (s .now' h) j heads (b ∷ [])
+      facts' : (torn : Bool) → Retires (cut torn) o (s .now' p) j heads (b ∷ [])
       facts' torn = record { has = record { row = refl; loose = refl; fresh = u .0 .retires .has .fresh }; done = u .0 .retires .done; spent = u .0 .retires .spent; few = u .0 .retires .few; short = u .0 .retires .short }
 
       scanned' : (torn : Bool) (q d : ℕ) → q < m .cpus → 1 ≤ cnt d (trail q) → 1 ≤ limbo (cut torn) d → grace .before ≤ g .stamps d
       unfolding passed passedIn passedReclaim
-      scanned' torn q d l a z = scanned-at i _ e q d l a (omega (arith, same-limbo d))
+      scanned' torn q d l a z = holder-scanned i _ _ e q d l a (omega (arith, same-limbo d))
 
       -- The node leaves the chain.
-      pub set-head-step : Goes (counted (stored h 0 3 next m)) (reclaimAfter j (SetHead grace left b next) 0)
+      pub set-head-step : Goes (counted (stored p 0 3 next m)) (reclaimAfter j (SetHead grace left b next) 0)
       unfolding Writer PhaseFacts ReclaimFacts holds holdsIn passed passedIn passedReclaim
       set-head-step = elim (eqb-tells next 0) [
             inl y ↦ rw (y .0) (record { ghost = cut true; core = core' true (λ w. absurd (true≢false w)); leaves = leaves' true
-              ; facts = (facts' true, chain-none (view h m) next (u .1 .0) rest (y .1), u .2); scanned = scanned' true; holding = refl })
+              ; facts = (facts' true, chain-none (view p m) next (u .1 .0) rest (y .1), u .2); scanned = scanned' true; holding = refl })
           | inr y ↦ rw (y .0) (record { ghost = cut false; core = core' false (λ w. y .1); leaves = leaves' false; facts = (facts' false, refl, u .2); scanned = scanned' false; holding = refl }) ]
         where
-          rest : Chain (view h m) next (u .1 .0)
-          rest = subst (λ z. Chain (view h m) z (u .1 .0)) (u .3) (chain-rest (view h m) (view h m 0 3) b (u .1 .0) (subst (Chain (view h m) (view h m 0 3)) (u .1 .1) (i .core .sight .linked)))
+          rest : Chain (view p m) next (u .1 .0)
+          rest = subst (λ z. Chain (view p m) z (u .1 .0)) (u .3) (chain-rest (view p m) (view p m 0 3) b (u .1 .0) (subst (Chain (view p m) (view p m 0 3)) (u .1 .1) (i .core .sight .linked)))
 
     -- It was the last: LIMBO_TAIL says so.
-    pub set-tail-step : (b : ℕ) → c .work (k .who) ≡ Updating j (InReclaim (SetTail grace left b)) → Goes (counted (stored h 0 4 0 m)) (reclaimAfter j (SetTail grace left b) 0)
+    pub set-tail-step : (b : ℕ) → c .work p ≡ Updating j (InReclaim (SetTail grace left b)) → Goes (counted (stored p 0 4 0 m)) (reclaimAfter j (SetTail grace left b) 0)
     unfolding Writer PhaseFacts ReclaimFacts holds holdsIn passed passedIn passedReclaim cnt
     set-tail-step b e = record
         { ghost = regroup g [] (g .loose) (g .fresh) false heads
-        ; core = core-set (i .core) (heads-row m h (k .held) g (s .table) t (i .core) (f .0 .has .row)) 4 0 [] (g .loose) (g .fresh) false (omega arith) (omega arith) (λ d. omega (arith, none d)) (sight-tail (i .core .sight) (f .1))
+        ; core = core-set (i .core) (heads-row m p true g (s .table) t (i .core) (f .0 .has .row)) 4 0 [] (g .loose) (g .fresh) false (omega arith) (omega arith) (λ d. omega (arith, none d)) (sight-tail (i .core .sight) (f .1))
         ; leaves = λ q. leaves-regroup m _ g [] (g .loose) (g .fresh) false heads (trail q) q refl (λ d a. omega (arith, none d))
         ; facts = (record { has = record { row = refl; loose = f .0 .has .loose; fresh = f .0 .has .fresh }; done = f .0 .done; spent = f .0 .spent; few = f .0 .few; short = f .0 .short }, refl, f .2)
-        ; scanned = λ q d l a z. scanned-at i _ e q d l a (omega (arith, none d))
+        ; scanned = λ q d l a z. holder-scanned i _ _ e q d l a (omega (arith, none d))
         ; holding = refl }
       where
-        f : Retires g o (s .now' h) j heads (b ∷ []) × (g .chain ≡ []) × (g .stamps b < grace .before)
-        f = facts-at i j (InReclaim (SetTail grace left b)) e
+        f : Retires g o (s .now' p) j heads (b ∷ []) × (g .chain ≡ []) × (g .stamps b < grace .before)
+        f = holder-facts i j (InReclaim (SetTail grace left b)) e
         none : (d : ℕ) → cnt d (g .chain) ≡ 0
         none d = ap (cnt d) (f .1)
 
-    module _ (b : ℕ) (e : c .work (k .who) ≡ Updating j (InReclaim (Release grace left b))) where
-      gives : Retires g o (s .now' h) j heads (b ∷ []) × (g .torn ≡ false) × (g .stamps b < grace .before)
+    module _ (b : ℕ) (e : c .work p ≡ Updating j (InReclaim (Release grace left b))) where
+      gives : Retires g o (s .now' p) j heads (b ∷ []) × (g .torn ≡ false) × (g .stamps b < grace .before)
       unfolding PhaseFacts ReclaimFacts
-      gives = facts-at i j (InReclaim (Release grace left b)) e
+      gives = holder-facts i j (InReclaim (Release grace left b)) e
 
       -- the node is gone
       abbrev gone : Ghost
@@ -160,41 +158,41 @@ module _ {m : Mem} {k : Lock} {g : Ghost} {trail : ℕ → List ℕ} {s : State}
       unfolding cnt
       loose-is d = ap (cnt d) (gives .0 .has .loose) ∙ (omega arith)
 
-      core-gone : Core (counted (released b m)) h (k .held) gone (s .table) t
+      core-gone : Core (counted (released b m)) p true gone (s .table) t
       unfolding cnt
-      core-gone = core-release (i .core) (heads-row m h (k .held) g (s .table) t (i .core) (gives .0 .has .row)) b [] (g .fresh) (λ d. omega (arith, loose-is d)) (λ d. omega arith)
+      core-gone = core-release (i .core) (heads-row m p true g (s .table) t (i .core) (gives .0 .has .row)) b [] (g .fresh) (λ d. omega (arith, loose-is d)) (λ d. omega arith)
 
       -- It is on nobody's trail.
       leaves-gone : (q : ℕ) → Leaves m g (counted (released b m)) gone (trail q) q
       unfolding cnt passed passedIn passedReclaim
       leaves-gone q = leaves-regroup m _ g (g .chain) [] (g .fresh) (g .torn) heads (trail q) q refl (λ d a. elim (eqb-tells d b) [
-            inl y ↦ absurd (off-trail i _ (grace .before) b e refl (let z = loose-is b in let w = eq-eqb b b refl in grind (arith, tells)) (gives .2) q (subst (λ z. 1 ≤ cnt z (trail q)) (y .1) a))
+            inl y ↦ absurd (off-trail i _ _ (grace .before) b e refl (let z = loose-is b in let w = eq-eqb b b refl in grind (arith, tells)) (gives .2) q (subst (λ z. 1 ≤ cnt z (trail q)) (y .1) a))
           | inr y ↦ (let x = loose-is d in grind (arith, tells)) ])
 
-      left-over : Reclaims gone o (s .now' h) j
+      left-over : Reclaims gone o (s .now' p) j
       left-over = record { retires = record { has = record { row = refl; loose = refl; fresh = gives .0 .has .fresh }; done = gives .0 .done; spent = gives .0 .spent; few = gives .0 .few; short = gives .0 .short }; whole = gives .1 }
 
       -- The node is given back.
       pub release-step : Goes (counted (released b m)) (reclaimAfter j (Release grace left b) 0)
       unfolding Writer PhaseFacts ReclaimFacts holds holdsIn passed passedIn passedReclaim cnt
       release-step = elim (cases-bool (ltb 1 left)) [
-            inl y ↦ rw y (record { ghost = gone; core = core-gone; leaves = leaves-gone; facts = left-over; scanned = λ q d l a z. scanned-at i _ e q d l a (omega arith); holding = refl })
+            inl y ↦ rw y (record { ghost = gone; core = core-gone; leaves = leaves-gone; facts = left-over; scanned = λ q d l a z. holder-scanned i _ _ e q d l a (omega arith); holding = refl })
           | inr y ↦ rw y (finishes-on gone j core-gone leaves-gone left-over) ]
 
-  module _ (e : c .work (k .who) ≡ Updating j (InFinish Unused)) where
-    f : Reclaims g o (s .now' h) j × (j .used < j .got)
+  module _ (e : c .work p ≡ Updating j (InFinish Unused)) where
+    f : Reclaims g o (s .now' p) j × (j .used < j .got)
     unfolding PhaseFacts FinishFacts
-    f = facts-at i j (InFinish Unused) e
+    f = holder-facts i j (InFinish Unused) e
 
     -- The first fresh block that was not used is the one that is given back.
     pub unused-block : freshIn o (j .used) ≡ wordsOf o (freshAt (j .used))
     unused-block = child-same _ (used-small (i .core) _ (let z : 1 ≤ cnt (wordsOf o (freshAt (j .used))) (g .fresh) = subst (λ l. 1 ≤ cnt (wordsOf o (freshAt (j .used))) l) (sym (f .0 .retires .has .fresh)) (rest-first o j (f .1)) in omega arith))
 
     -- It is given back.
-    pub unused-step : HolderStep m k g trail (s .table) t (s .now' h) (counted (released (freshIn o (j .used)) m)) o (workOfUpdate (finishAfter j Unused 0))
+    pub unused-step : HolderStep m p g trail (s .table) t (s .now' p) (counted (released (freshIn o (j .used)) m)) o (workOfUpdate (finishAfter j Unused 0))
     unused-step = rw unused-block
         (finishes-on (regroup g (g .chain) (g .loose) (restBlocks o (using' (j .used + 1) j)) (g .torn) heads) (using' (j .used + 1) j)
-          (core-release (i .core) (heads-row m h (k .held) g (s .table) t (i .core) (f .0 .retires .has .row)) (wordsOf o (freshAt (j .used))) (g .loose) _
+          (core-release (i .core) (heads-row m p true g (s .table) t (i .core) (f .0 .retires .has .row)) (wordsOf o (freshAt (j .used))) (g .loose) _
             (λ d. (let z : cnt d (g .fresh) ≡ cnt d (restBlocks o j) = ap (cnt d) (f .0 .retires .has .fresh) in omega (arith, rest-less o j (f .1) d))) (λ d. omega arith))
           (λ q. leaves-regroup m _ g (g .chain) (g .loose) _ (g .torn) heads (trail q) q refl (λ d a. refl))
           (record { retires = record { has = record { row = refl; loose = f .0 .retires .has .loose; fresh = refl }; done = f .0 .retires .done; spent = omega (arith, f .1); few = f .0 .retires .few; short = f .0 .retires .short }; whole = f .0 .whole }))

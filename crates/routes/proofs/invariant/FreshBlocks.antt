@@ -26,6 +26,7 @@ module _ (o : List ℕ) (j : Job) (b : ℕ) (room : length o ≡ 4096) (few : j 
   abbrev pub more : List ℕ
   more = set o (freshAt (j .got)) b
 
+  -- Only that word is another.
   words-more : wordsOf more ≡ put (freshAt (j .got)) b (wordsOf o)
   words-more = words-set o (freshAt (j .got)) b (omega arith)
 

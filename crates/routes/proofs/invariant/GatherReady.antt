@@ -62,6 +62,7 @@ module _ {m : Mem} {g : Ghost} {trail : ℕ → List ℕ} {s : State} {t : ℕ} 
       positive b n = omega arith
 
   module _ (j : Job) where
+    -- its own words
     abbrev o : List ℕ
     o = c .own p
 

@@ -62,6 +62,7 @@ none-told (Told a) e = absurd (false≢true e)
 
 module _ {m : Mem} {g : Ghost} {trail : ℕ → List ℕ} {s : State} {t : ℕ} {c : Cpus} {p : ℕ} (i : Inv m (lockOf p true) g trail s t c)
          {cpus blocks : ℕ} {es : List Event} (r : Run cpus blocks es s) (y : T (young (s .now' p))) (j : Job) where
+  -- its own words
   abbrev o : List ℕ
   o = c .own p
 

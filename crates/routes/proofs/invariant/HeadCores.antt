@@ -72,9 +72,11 @@ module _ {m : Mem} {h : ℕ} {l : Bool} {g : Ghost} {rs : List Route} {t : ℕ} 
     other : (c : ℕ) → 1 ≤ uses g c → c ≡ b → ⊥
     other c n e = let z = free-unused o b free in let q : uses g c ≡ uses g b = ap (uses g) e in omega arith
 
+    -- So is the header.
     header : _≡_ {A = ℕ} 0 b → ⊥
     header e = let z : true ≡ false = sym (header-held o) ∙ (ap (m .held) e ∙ free) in grind (arith, tells)
 
+    -- Other blocks are seen as before.
     after : (c w : ℕ) → (c ≡ b → ⊥) → view h (counted (obtained b f m)) c w ≡ view h m c w
     unfolding view
     after c w n = view-obtained h b f m same c w n

@@ -35,41 +35,45 @@ use Rattle.routes.proofs.invariant.Gatherings.{gathers-on, undoes-on}
 use Rattle.routes.proofs.invariant.Needs.{need-few}
 
 module _ {m : Mem} {g : Ghost} {trail : ℕ → List ℕ} {s : State} {t : ℕ} {c : Cpus} {p : ℕ} (i : Inv m (lockOf p true) g trail s t c) (j : Job) where
+  -- its own words
   abbrev o : List ℕ
   o = c .own p
 
   module _ (e : c .work p ≡ Updating j (InObtain Get)) where
-    f : Gathers g o (s .table) (s .now' p) j
+    -- What is known where one more is wanted.
+    known : Gathers g o (s .table) (s .now' p) j
     unfolding PhaseFacts ObtainFacts
-    f = holder-facts i j (InObtain Get) e
+    known = holder-facts i j (InObtain Get) e
 
     -- There is room for one more among the own words.
     pub got-few : j .got < 72
-    got-few = omega (arith, need-few (f .gathered .sure), f .wants')
+    got-few = omega (arith, need-few (known .gathered .sure), known .wants')
 
+    -- Its late stores.
     row : HeadsRow p m
-    row = heads-row m p true g (s .table) t (i .core) (f .gathered .has .row)
+    row = heads-row m p true g (s .table) t (i .core) (known .gathered .has .row)
 
     -- Block b is got, with any words in it.
     pub get-step : (b : ℕ) (words : ℕ → ℕ → ℕ) → b < m .blocks → m .held b ≡ false → ((d w : ℕ) → (d ≡ b → ⊥) → words d w ≡ m .val d w) →
         HolderStep m p g trail (s .table) t (s .now' p) (counted (obtained b words m)) (obtainWords j Get o (suc b)) (workOfUpdate (obtainAfter j Get (suc b)))
     get-step b words inside free same =
         gathers-on (regroup g (g .chain) (g .loose) (gotBlocks (more o j b (holder-room i) got-few) (having (j .got + 1) j)) (g .torn) heads) (having (j .got + 1) j)
-          (core-obtain (i .core) row b words inside free same _ (λ d. got-more o j b (holder-room i) got-few d ∙ (let z : cnt d (g .fresh) ≡ cnt d (gotBlocks o j) = ap (cnt d) (f .gathered .has .fresh) in omega arith)))
+          (core-obtain (i .core) row b words inside free same _ (λ d. got-more o j b (holder-room i) got-few d ∙ (let z : cnt d (g .fresh) ≡ cnt d (gotBlocks o j) = ap (cnt d) (known .gathered .has .fresh) in omega arith)))
           (λ q. leaves-obtain (i .core) row b words inside free same _ heads (trail q) q (i .readers q .safe))
-          (record { has = record { row = refl; loose = f .gathered .has .loose; fresh = refl }; ps = f .gathered .ps; qs = f .gathered .qs; awaits = f .gathered .awaits
-            ; sure = record { pending = pending-more o j b (holder-room i) got-few (j .size) (f .gathered .ps) (f .gathered .sure .pending); makes = f .gathered .sure .makes; need = f .gathered .sure .need }
-            ; enough = omega (arith, f .wants'); used = f .gathered .used; retired = f .gathered .retired })
-          (f .whole)
+          (record { has = record { row = refl; loose = known .gathered .has .loose; fresh = refl }; ps = known .gathered .ps; qs = known .gathered .qs; awaits = known .gathered .awaits
+            ; sure = record { pending = pending-more o j b (holder-room i) got-few (j .size) (known .gathered .ps) (known .gathered .sure .pending); makes = known .gathered .sure .makes; need = known .gathered .sure .need }
+            ; enough = omega (arith, known .wants'); used = known .gathered .used; retired = known .gathered .retired })
+          (known .whole)
 
     -- There is none: every block is in use.
     pub get-none : ((b : ℕ) → b < m .blocks → m .held b ≡ true) → HolderStep m p g trail (s .table) t (s .now' p) (counted m) (obtainWords j Get o 0) (workOfUpdate (obtainAfter j Get 0))
     unfolding Writer PhaseFacts RecycleFacts holds holdsIn passed passedIn passedRecycle
     get-none all = loads i (s .now' p) o (Updating j (InRecycle Head))
-        (f, λ b l. omega (arith, i .core .blocks b, ap bit (all b l)))
+        (known, λ b l. omega (arith, i .core .blocks b, ap bit (all b l)))
         (λ q b l. absurd (omega arith)) refl
 
   module _ (e : c .work p ≡ Updating j (InObtain Undo)) where
+    -- What is known where there is no room.
     undo : Undoes g o (s .now' p) j × (0 < j .got)
     unfolding PhaseFacts ObtainFacts
     undo = holder-facts i j (InObtain Undo) e

@@ -54,6 +54,7 @@ finishes-on g' j core leaves f = elim (cases-lt (j .used) (j .got)) [
     | inr l ↦ rw (le-ltb (j .used) (j .got) l) (record { ghost = g'; core = core; leaves = leaves; facts = (f, l); scanned = λ q b i. absurd (omega arith); holding = refl }) ]
 
 module _ {m : Mem} {g : Ghost} {trail : ℕ → List ℕ} {s : State} {t : ℕ} {c : Cpus} {p : ℕ} (i : Inv m (lockOf p true) g trail s t c) (j : Job) where
+  -- its own words
   abbrev o : List ℕ
   o = c .own p
 
@@ -91,29 +92,35 @@ module _ {m : Mem} {g : Ghost} {trail : ℕ → List ℕ} {s : State} {t : ℕ} 
         f = holder-facts i j (InReclaim (Next grace left b)) e
 
     module _ (b next : ℕ) (e : c .work p ≡ Updating j (InReclaim (SetHead grace left b next))) where
-      u : Reclaims g o (s .now' p) j × Oldest g b × (g .stamps b < grace .before) × (view p m b 32 ≡ next)
+      -- What is known of the node that is to leave the chain.
+      known : Reclaims g o (s .now' p) j × Oldest g b × (g .stamps b < grace .before) × (view p m b 32 ≡ next)
       unfolding PhaseFacts ReclaimFacts
-      u = holder-facts i j (InReclaim (SetHead grace left b next)) e
+      known = holder-facts i j (InReclaim (SetHead grace left b next)) e
 
       -- the node has left the chain
       abbrev cut : Bool → Ghost
-      cut torn = regroup g (u .1 .0) (b ∷ []) (g .fresh) torn heads
+      cut torn = regroup g (known .1 .0) (b ∷ []) (g .fresh) torn heads
 
-      same-limbo : (d : ℕ) → cnt d (u .1 .0) + cnt d (b ∷ []) ≡ limbo g d
+      -- It stays in limbo.
+      same-limbo : (d : ℕ) → cnt d (known .1 .0) + cnt d (b ∷ []) ≡ limbo g d
       unfolding cnt
-      same-limbo d = let x : cnt d (g .chain) ≡ bit (eqb d b) + cnt d (u .1 .0) = ap (cnt d) (u .1 .1) in let y : cnt d (g .loose) ≡ 0 = ap (cnt d) (u .0 .retires .has .loose) in omega arith
+      same-limbo d = let x : cnt d (g .chain) ≡ bit (eqb d b) + cnt d (known .1 .0) = ap (cnt d) (known .1 .1) in let y : cnt d (g .loose) ≡ 0 = ap (cnt d) (known .0 .retires .has .loose) in omega arith
 
+      -- What holds of the memory then.
       core' : (torn : Bool) → (torn ≡ false → next ≡ 0 → ⊥) → Core (counted (stored p 0 3 next m)) p true (cut torn) (s .table) t
-      core' torn real = core-set (i .core) (heads-row m p true g (s .table) t (i .core) (u .0 .retires .has .row)) 3 next (u .1 .0) (b ∷ []) (g .fresh) torn (omega arith) (omega arith)
+      core' torn real = core-set (i .core) (heads-row m p true g (s .table) t (i .core) (known .0 .retires .has .row)) 3 next (known .1 .0) (b ∷ []) (g .fresh) torn (omega arith) (omega arith)
           (λ d. omega (arith, same-limbo d))
-          (sight-head (i .core .sight) b next (u .1 .0) (b ∷ []) (g .fresh) torn (u .1 .1) (u .3) (λ w. last-kept (i .core .sight) b next (u .1 .0) (u .1 .1) (u .3) (real w) (u .0 .whole)) (λ d n. omega (arith, same-limbo d)))
+          (sight-head (i .core .sight) b next (known .1 .0) (b ∷ []) (g .fresh) torn (known .1 .1) (known .3) (λ w. last-kept (i .core .sight) b next (known .1 .0) (known .1 .1) (known .3) (real w) (known .0 .whole)) (λ d n. omega (arith, same-limbo d)))
 
+      -- No lookup sees it.
       leaves' : (torn : Bool) (q : ℕ) → Leaves m g (counted (stored p 0 3 next m)) (cut torn) (trail q) q
-      leaves' torn q = leaves-regroup m _ g (u .1 .0) (b ∷ []) (g .fresh) torn heads (trail q) q refl (λ d a. same-limbo d)
+      leaves' torn q = leaves-regroup m _ g (known .1 .0) (b ∷ []) (g .fresh) torn heads (trail q) q refl (λ d a. same-limbo d)
 
+      -- The node alone is loose.
       facts' : (torn : Bool) → Retires (cut torn) o (s .now' p) j heads (b ∷ [])
-      facts' torn = record { has = record { row = refl; loose = refl; fresh = u .0 .retires .has .fresh }; done = u .0 .retires .done; spent = u .0 .retires .spent; few = u .0 .retires .few; short = u .0 .retires .short }
+      facts' torn = record { has = record { row = refl; loose = refl; fresh = known .0 .retires .has .fresh }; done = known .0 .retires .done; spent = known .0 .retires .spent; few = known .0 .retires .few; short = known .0 .retires .short }
 
+      -- What the scan has passed it still has.
       scanned' : (torn : Bool) (q d : ℕ) → q < m .cpus → 1 ≤ cnt d (trail q) → 1 ≤ limbo (cut torn) d → grace .before ≤ g .stamps d
       unfolding passed passedIn passedReclaim
       scanned' torn q d l a z = holder-scanned i _ _ e q d l a (omega (arith, same-limbo d))
@@ -123,11 +130,11 @@ module _ {m : Mem} {g : Ghost} {trail : ℕ → List ℕ} {s : State} {t : ℕ} 
       unfolding Writer PhaseFacts ReclaimFacts holds holdsIn passed passedIn passedReclaim
       set-head-step = elim (eqb-tells next 0) [
             inl y ↦ rw (y .0) (record { ghost = cut true; core = core' true (λ w. absurd (true≢false w)); leaves = leaves' true
-              ; facts = (facts' true, chain-none (view p m) next (u .1 .0) rest (y .1), u .2); scanned = scanned' true; holding = refl })
-          | inr y ↦ rw (y .0) (record { ghost = cut false; core = core' false (λ w. y .1); leaves = leaves' false; facts = (facts' false, refl, u .2); scanned = scanned' false; holding = refl }) ]
+              ; facts = (facts' true, chain-none (view p m) next (known .1 .0) rest (y .1), known .2); scanned = scanned' true; holding = refl })
+          | inr y ↦ rw (y .0) (record { ghost = cut false; core = core' false (λ w. y .1); leaves = leaves' false; facts = (facts' false, refl, known .2); scanned = scanned' false; holding = refl }) ]
         where
-          rest : Chain (view p m) next (u .1 .0)
-          rest = subst (λ z. Chain (view p m) z (u .1 .0)) (u .3) (chain-rest (view p m) (view p m 0 3) b (u .1 .0) (subst (Chain (view p m) (view p m 0 3)) (u .1 .1) (i .core .sight .linked)))
+          rest : Chain (view p m) next (known .1 .0)
+          rest = subst (λ z. Chain (view p m) z (known .1 .0)) (known .3) (chain-rest (view p m) (view p m 0 3) b (known .1 .0) (subst (Chain (view p m) (view p m 0 3)) (known .1 .1) (i .core .sight .linked)))
 
     -- It was the last: LIMBO_TAIL says so.
     pub set-tail-step : (b : ℕ) → c .work p ≡ Updating j (InReclaim (SetTail grace left b)) → Goes (counted (stored p 0 4 0 m)) (reclaimAfter j (SetTail grace left b) 0)
@@ -146,6 +153,7 @@ module _ {m : Mem} {g : Ghost} {trail : ℕ → List ℕ} {s : State} {t : ℕ} 
         none d = ap (cnt d) (f .1)
 
     module _ (b : ℕ) (e : c .work p ≡ Updating j (InReclaim (Release grace left b))) where
+      -- What is known of the node that is to go back.
       gives : Retires g o (s .now' p) j heads (b ∷ []) × (g .torn ≡ false) × (g .stamps b < grace .before)
       unfolding PhaseFacts ReclaimFacts
       gives = holder-facts i j (InReclaim (Release grace left b)) e
@@ -154,10 +162,12 @@ module _ {m : Mem} {g : Ghost} {trail : ℕ → List ℕ} {s : State} {t : ℕ} 
       abbrev gone : Ghost
       gone = regroup g (g .chain) [] (g .fresh) (g .torn) heads
 
+      -- It alone is loose.
       loose-is : (d : ℕ) → cnt d (g .loose) ≡ bit (eqb d b)
       unfolding cnt
       loose-is d = ap (cnt d) (gives .0 .has .loose) ∙ (omega arith)
 
+      -- What holds of the memory then.
       core-gone : Core (counted (released b m)) p true gone (s .table) t
       unfolding cnt
       core-gone = core-release (i .core) (heads-row m p true g (s .table) t (i .core) (gives .0 .has .row)) b [] (g .fresh) (λ d. omega (arith, loose-is d)) (λ d. omega arith)
@@ -169,6 +179,7 @@ module _ {m : Mem} {g : Ghost} {trail : ℕ → List ℕ} {s : State} {t : ℕ} 
             inl y ↦ absurd (off-trail i _ _ (grace .before) b e refl (let z = loose-is b in let w = eq-eqb b b refl in grind (arith, tells)) (gives .2) q (subst (λ z. 1 ≤ cnt z (trail q)) (y .1) a))
           | inr y ↦ (let x = loose-is d in grind (arith, tells)) ])
 
+      -- Nothing is loose then.
       left-over : Reclaims gone o (s .now' p) j
       left-over = record { retires = record { has = record { row = refl; loose = refl; fresh = gives .0 .has .fresh }; done = gives .0 .done; spent = gives .0 .spent; few = gives .0 .few; short = gives .0 .short }; whole = gives .1 }
 
@@ -180,19 +191,20 @@ module _ {m : Mem} {g : Ghost} {trail : ℕ → List ℕ} {s : State} {t : ℕ} 
           | inr y ↦ rw y (finishes-on gone j core-gone leaves-gone left-over) ]
 
   module _ (e : c .work p ≡ Updating j (InFinish Unused)) where
-    f : Reclaims g o (s .now' p) j × (j .used < j .got)
+    -- What is known where a fresh block was not used.
+    rests : Reclaims g o (s .now' p) j × (j .used < j .got)
     unfolding PhaseFacts FinishFacts
-    f = holder-facts i j (InFinish Unused) e
+    rests = holder-facts i j (InFinish Unused) e
 
     -- The first fresh block that was not used is the one that is given back.
     pub unused-block : freshIn o (j .used) ≡ wordsOf o (freshAt (j .used))
-    unused-block = child-same _ (used-small (i .core) _ (let z : 1 ≤ cnt (wordsOf o (freshAt (j .used))) (g .fresh) = subst (λ l. 1 ≤ cnt (wordsOf o (freshAt (j .used))) l) (sym (f .0 .retires .has .fresh)) (rest-first o j (f .1)) in omega arith))
+    unused-block = child-same _ (used-small (i .core) _ (let z : 1 ≤ cnt (wordsOf o (freshAt (j .used))) (g .fresh) = subst (λ l. 1 ≤ cnt (wordsOf o (freshAt (j .used))) l) (sym (rests .0 .retires .has .fresh)) (rest-first o j (rests .1)) in omega arith))
 
     -- It is given back.
     pub unused-step : HolderStep m p g trail (s .table) t (s .now' p) (counted (released (freshIn o (j .used)) m)) o (workOfUpdate (finishAfter j Unused 0))
     unused-step = rw unused-block
         (finishes-on (regroup g (g .chain) (g .loose) (restBlocks o (using' (j .used + 1) j)) (g .torn) heads) (using' (j .used + 1) j)
-          (core-release (i .core) (heads-row m p true g (s .table) t (i .core) (f .0 .retires .has .row)) (wordsOf o (freshAt (j .used))) (g .loose) _
-            (λ d. (let z : cnt d (g .fresh) ≡ cnt d (restBlocks o j) = ap (cnt d) (f .0 .retires .has .fresh) in omega (arith, rest-less o j (f .1) d))) (λ d. omega arith))
+          (core-release (i .core) (heads-row m p true g (s .table) t (i .core) (rests .0 .retires .has .row)) (wordsOf o (freshAt (j .used))) (g .loose) _
+            (λ d. (let z : cnt d (g .fresh) ≡ cnt d (restBlocks o j) = ap (cnt d) (rests .0 .retires .has .fresh) in omega (arith, rest-less o j (rests .1) d))) (λ d. omega arith))
           (λ q. leaves-regroup m _ g (g .chain) (g .loose) _ (g .torn) heads (trail q) q refl (λ d a. refl))
-          (record { retires = record { has = record { row = refl; loose = f .0 .retires .has .loose; fresh = refl }; done = f .0 .retires .done; spent = omega (arith, f .1); few = f .0 .retires .few; short = f .0 .retires .short }; whole = f .0 .whole }))
+          (record { retires = record { has = record { row = refl; loose = rests .0 .retires .has .loose; fresh = refl }; done = rests .0 .retires .done; spent = omega (arith, rests .1); few = rests .0 .retires .few; short = rests .0 .retires .short }; whole = rests .0 .whole }))

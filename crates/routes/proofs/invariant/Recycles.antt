@@ -70,19 +70,22 @@ module _ {m : Mem} {g : Ghost} {trail : ℕ → List ℕ} {s : State} {t : ℕ} 
   pub stamp-seen : (b : ℕ) → Oldest g b → sees p b 31 m ≡ g .stamps b
   stamp-seen b e = sym (view-open p m b 31 (open-block b 31 (solid (i .core) b (let z = oldest-in b e in omega arith)))) ∙ i .core .sight .stamped b (oldest-in b e) .0
 
-  -- LIMBO_HEAD is 0 where nothing is linked, and else the oldest retired node.
+  -- Where LIMBO_HEAD is 0 nothing is linked.
   pub head-none : sees p 0 3 m ≡ 0 → g .chain ≡ []
   head-none e = chain-none (view p m) _ (g .chain) (i .core .sight .linked) (view-open p m 0 3 refl ∙ e)
 
+  -- Else it is the oldest retired node.
   pub head-oldest : (sees p 0 3 m ≡ 0 → ⊥) → Oldest g (sees p 0 3 m)
   head-oldest n = elim (chain-first (view p m) (view p m 0 3) (g .chain) (i .core .sight .linked)) [
         inl e ↦ absurd (n (sym (view-open p m 0 3 refl) ∙ e .0))
       | inr e ↦ (e .1 .0, e .1 .1 ∙ ap (λ z. z ∷ e .1 .0) (view-open p m 0 3 refl)) ]
 
+  -- Either way it fits into a slot.
   pub head-fits : childOf (sees p 0 3 m) ≡ sees p 0 3 m
   head-fits = subst (λ z. childOf z ≡ z) (view-open p m 0 3 refl) (chain-fits (view p m 0 3) (g .chain) (i .core .sight .linked) (λ b n. n))
 
 module _ {m : Mem} {g : Ghost} {trail : ℕ → List ℕ} {s : State} {t : ℕ} {c : Cpus} {p : ℕ} (i : Inv m (lockOf p true) g trail s t c) (j : Job) where
+  -- its own words
   abbrev o : List ℕ
   o = c .own p
 
@@ -131,53 +134,59 @@ module _ {m : Mem} {g : Ghost} {trail : ℕ → List ℕ} {s : State} {t : ℕ} 
       d = holder-facts i j (InRecycle (Next b grace)) e
 
   module _ (b next : ℕ) (grace : GracePeriod) (e : c .work p ≡ Updating j (InRecycle (SetHead b next grace))) where
-    u : Gathers g o (s .table) (s .now' p) j × Oldest g b × (g .stamps b < grace .before) × (view p m b 32 ≡ next)
+    -- What is known of the node that is to leave the chain.
+    known : Gathers g o (s .table) (s .now' p) j × Oldest g b × (g .stamps b < grace .before) × (view p m b 32 ≡ next)
     unfolding PhaseFacts RecycleFacts
-    u = holder-facts i j (InRecycle (SetHead b next grace)) e
+    known = holder-facts i j (InRecycle (SetHead b next grace)) e
 
     -- There is room for one more among the own words.
     pub reuse-few : j .got < 72
-    reuse-few = omega (arith, need-few (u .0 .gathered .sure), u .0 .wants')
+    reuse-few = omega (arith, need-few (known .0 .gathered .sure), known .0 .wants')
 
     -- the node has left the chain and is fresh
     abbrev recycled : Bool → Ghost
-    recycled torn = regroup g (u .1 .0) [] (gotBlocks (more o j b (holder-room i) reuse-few) (having (j .got + 1) j)) torn heads
+    recycled torn = regroup g (known .1 .0) [] (gotBlocks (more o j b (holder-room i) reuse-few) (having (j .got + 1) j)) torn heads
 
-    in-chain : (d : ℕ) → cnt d (g .chain) ≡ bit (eqb d b) + cnt d (u .1 .0)
+    -- It is the first of the chain.
+    in-chain : (d : ℕ) → cnt d (g .chain) ≡ bit (eqb d b) + cnt d (known .1 .0)
     unfolding cnt
-    in-chain d = ap (cnt d) (u .1 .1)
+    in-chain d = ap (cnt d) (known .1 .1)
 
+    -- Nothing is loose.
     none-loose : (d : ℕ) → cnt d (g .loose) ≡ 0
     unfolding cnt
-    none-loose d = ap (cnt d) (u .0 .gathered .has .loose)
+    none-loose d = ap (cnt d) (known .0 .gathered .has .loose)
 
+    -- What holds of the memory then.
     core' : (torn : Bool) → (torn ≡ false → next ≡ 0 → ⊥) → Core (counted (stored p 0 3 next m)) p true (recycled torn) (s .table) t
     unfolding cnt
-    core' torn real = core-set (i .core) (heads-row m p true g (s .table) t (i .core) (u .0 .gathered .has .row)) 3 next (u .1 .0) [] _ torn (omega arith) (omega arith)
-        (λ d. (let z : cnt d (g .fresh) ≡ cnt d (gotBlocks o j) = ap (cnt d) (u .0 .gathered .has .fresh) in omega (arith, in-chain d, none-loose d, got-more o j b (holder-room i) reuse-few d)))
-        (sight-head (i .core .sight) b next (u .1 .0) [] _ torn (u .1 .1) (u .3) (λ w. last-kept (i .core .sight) b next (u .1 .0) (u .1 .1) (u .3) (real w) (u .0 .whole)) (λ d n. absurd (omega arith)))
+    core' torn real = core-set (i .core) (heads-row m p true g (s .table) t (i .core) (known .0 .gathered .has .row)) 3 next (known .1 .0) [] _ torn (omega arith) (omega arith)
+        (λ d. (let z : cnt d (g .fresh) ≡ cnt d (gotBlocks o j) = ap (cnt d) (known .0 .gathered .has .fresh) in omega (arith, in-chain d, none-loose d, got-more o j b (holder-room i) reuse-few d)))
+        (sight-head (i .core .sight) b next (known .1 .0) [] _ torn (known .1 .1) (known .3) (λ w. last-kept (i .core .sight) b next (known .1 .0) (known .1 .1) (known .3) (real w) (known .0 .whole)) (λ d n. absurd (omega arith)))
 
+    -- It is on nobody's trail, so no lookup sees it.
     leaves' : (torn : Bool) (q : ℕ) → Leaves m g (counted (stored p 0 3 next m)) (recycled torn) (trail q) q
     unfolding cnt passed passedIn passedRecycle
-    leaves' torn q = leaves-regroup m _ g (u .1 .0) [] _ torn heads (trail q) q refl (λ d a. elim (eqb-tells d b) [
-          inl y ↦ absurd (off-trail i _ _ (grace .before) b e refl (let z = oldest-in i b (u .1) in omega arith) (u .2) q (subst (λ z. 1 ≤ cnt z (trail q)) (y .1) a))
+    leaves' torn q = leaves-regroup m _ g (known .1 .0) [] _ torn heads (trail q) q refl (λ d a. elim (eqb-tells d b) [
+          inl y ↦ absurd (off-trail i _ _ (grace .before) b e refl (let z = oldest-in i b (known .1) in omega arith) (known .2) q (subst (λ z. 1 ≤ cnt z (trail q)) (y .1) a))
         | inr y ↦ (let x = in-chain d in let w = none-loose d in grind (arith, tells)) ])
 
+    -- One block more is got.
     facts' : (torn : Bool) → Gathered (recycled torn) (more o j b (holder-room i) reuse-few) (s .table) (s .now' p) (having (j .got + 1) j)
-    facts' torn = record { has = record { row = refl; loose = refl; fresh = refl }; ps = u .0 .gathered .ps; qs = u .0 .gathered .qs; awaits = u .0 .gathered .awaits
-        ; sure = record { pending = pending-more o j b (holder-room i) reuse-few (j .size) (u .0 .gathered .ps) (u .0 .gathered .sure .pending); makes = u .0 .gathered .sure .makes; need = u .0 .gathered .sure .need }
-        ; enough = omega (arith, u .0 .wants'); used = u .0 .gathered .used; retired = u .0 .gathered .retired }
+    facts' torn = record { has = record { row = refl; loose = refl; fresh = refl }; ps = known .0 .gathered .ps; qs = known .0 .gathered .qs; awaits = known .0 .gathered .awaits
+        ; sure = record { pending = pending-more o j b (holder-room i) reuse-few (j .size) (known .0 .gathered .ps) (known .0 .gathered .sure .pending); makes = known .0 .gathered .sure .makes; need = known .0 .gathered .sure .need }
+        ; enough = omega (arith, known .0 .wants'); used = known .0 .gathered .used; retired = known .0 .gathered .retired }
 
     -- The node leaves the chain and is fresh, in one store.
     pub set-head-step : HolderStep m p g trail (s .table) t (s .now' p) (counted (stored p 0 3 next m)) (recycleWords j (SetHead b next grace) o 0) (workOfUpdate (recycleAfter j (SetHead b next grace) 0))
     unfolding Writer PhaseFacts RecycleFacts holds holdsIn passed passedIn passedRecycle
     set-head-step = elim (eqb-tells next 0) [
           inl y ↦ rw (y .0) (record { ghost = recycled true; core = core' true (λ w. absurd (true≢false w)); leaves = leaves' true
-            ; facts = (facts' true, chain-none (view p m) next (u .1 .0) rest (y .1)); scanned = λ q d l. absurd (omega arith); holding = refl })
+            ; facts = (facts' true, chain-none (view p m) next (known .1 .0) rest (y .1)); scanned = λ q d l. absurd (omega arith); holding = refl })
         | inr y ↦ rw (y .0) (gathers-on (recycled false) (having (j .got + 1) j) (core' false (λ w. y .1)) (leaves' false) (facts' false) refl) ]
       where
-        rest : Chain (view p m) next (u .1 .0)
-        rest = subst (λ z. Chain (view p m) z (u .1 .0)) (u .3) (chain-rest (view p m) (view p m 0 3) b (u .1 .0) (subst (Chain (view p m) (view p m 0 3)) (u .1 .1) (i .core .sight .linked)))
+        rest : Chain (view p m) next (known .1 .0)
+        rest = subst (λ z. Chain (view p m) z (known .1 .0)) (known .3) (chain-rest (view p m) (view p m 0 3) b (known .1 .0) (subst (Chain (view p m) (view p m 0 3)) (known .1 .1) (i .core .sight .linked)))
 
   -- It was the last: LIMBO_TAIL says so.
   pub set-tail-step : c .work p ≡ Updating j (InRecycle SetTail) → HolderStep m p g trail (s .table) t (s .now' p) (counted (stored p 0 4 0 m)) o (workOfUpdate (recycleAfter j SetTail 0))

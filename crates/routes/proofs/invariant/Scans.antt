@@ -60,10 +60,12 @@ module _ {m : Mem} {g : Ghost} {trail : ℕ → List ℕ} {s : State} {t : ℕ} 
       | inr e ↦ (λ a f. omega (arith, before r b (omega arith) a f)) ]
 
   module _ (q b stamp : ℕ) (e : c .work p ≡ Updating j (InScan (ForNode q b stamp))) where
-    f : Stands (m .cpus) g (c .own p) (s .table) (s .now' p) j q b stamp
+    -- What is known where it stands for a node.
+    known : Stands (m .cpus) g (c .own p) (s .table) (s .now' p) j q b stamp
     unfolding PhaseFacts ScanFacts
-    f = holder-facts i j (InScan (ForNode q b stamp)) e
+    known = holder-facts i j (InScan (ForNode q b stamp)) e
 
+    -- What it has passed.
     before : (r d : ℕ) → r < q → 1 ≤ cnt d (trail r) → 1 ≤ limbo g d → suc stamp ≤ g .stamps d
     unfolding passed passedIn passedScan
     before = holder-scanned i _ _ e
@@ -71,27 +73,29 @@ module _ {m : Mem} {g : Ghost} {trail : ℕ → List ℕ} {s : State} {t : ℕ} 
     -- It stands at a lookup that is in the way of the node.
     stands : HolderStep m p g trail (s .table) t (s .now' p) (counted m) (c .own p) (Updating j (InScan (ForNode q b stamp)))
     unfolding Writer PhaseFacts ScanFacts holds holdsIn passed
-    stands = loads i (s .now' p) (c .own p) (Updating j (InScan (ForNode q b stamp))) f (holder-scanned i _ _ e) refl
+    stands = loads i (s .now' p) (c .own p) (Updating j (InScan (ForNode q b stamp))) known (holder-scanned i _ _ e) refl
 
     -- It is past a processor that is not.
     past : ((r d : ℕ) → r < q + 1 → 1 ≤ cnt d (trail r) → 1 ≤ limbo g d → suc stamp ≤ g .stamps d) →
         HolderStep m p g trail (s .table) t (s .now' p) (counted m) (c .own p) (Updating j (passedFor (m .cpus) q b stamp))
     unfolding Writer PhaseFacts ScanFacts RecycleFacts holds holdsIn passed passedIn passedScan passedRecycle
     past after = elim (cases-lt (q + 1) (m .cpus)) [
-          inl l ↦ rw (lt-ltb (q + 1) (m .cpus) l) (loads i (s .now' p) (c .own p) _ (record { gathers = f .gathers; oldest = f .oldest; stamped = f .stamped; here = l }) after refl)
-        | inr l ↦ rw (le-ltb (q + 1) (m .cpus) l) (loads i (s .now' p) (c .own p) _ (f .gathers, f .oldest, omega (arith, f .stamped)) (λ r d small a z. omega (arith, after r d (omega arith) a z)) refl) ]
+          inl l ↦ rw (lt-ltb (q + 1) (m .cpus) l) (loads i (s .now' p) (c .own p) _ (record { gathers = known .gathers; oldest = known .oldest; stamped = known .stamped; here = l }) after refl)
+        | inr l ↦ rw (le-ltb (q + 1) (m .cpus) l) (loads i (s .now' p) (c .own p) _ (known .gathers, known .oldest, omega (arith, known .stamped)) (λ r d small a z. omega (arith, after r d (omega arith) a z)) refl) ]
 
     -- A look at processor q for the oldest node.
     pub for-node-step : HolderStep m p g trail (s .table) t (s .now' p) (counted m) (c .own p) (Updating j (scanAfter (m .cpus) (ForNode q b stamp) (sees p 0 (16 + q) m)))
-    for-node-step = rw (active-seen (f .gathers .gathered .has .row) q) (elim (cases-bool (announcedBefore (announced (c .work q)) (stamp + 1))) [
+    for-node-step = rw (active-seen (known .gathers .gathered .has .row) q) (elim (cases-bool (announcedBefore (announced (c .work q)) (stamp + 1))) [
           inl a ↦ rw a stands
         | inr a ↦ rw a (past (passes q (suc stamp) (suc stamp) before (omega arith) (elim (not-before (announced (c .work q)) (stamp + 1) a) [ inl z ↦ inl z | inr z ↦ inr (omega arith) ]))) ])
 
   module _ (q limit : ℕ) (e : c .work p ≡ Updating j (InScan (ForLimit q limit))) where
-    facts : Reclaims g (c .own p) (s .now' p) j × (q < m .cpus)
+    -- What is known where it takes the least.
+    known' : Reclaims g (c .own p) (s .now' p) j × (q < m .cpus)
     unfolding PhaseFacts ScanFacts
-    facts = holder-facts i j (InScan (ForLimit q limit)) e
+    known' = holder-facts i j (InScan (ForLimit q limit)) e
 
+    -- What it has passed.
     upto : (r d : ℕ) → r < q → 1 ≤ cnt d (trail r) → 1 ≤ limbo g d → limit ≤ g .stamps d
     unfolding passed passedIn passedScan
     upto = holder-scanned i _ _ e
@@ -101,10 +105,10 @@ module _ {m : Mem} {g : Ghost} {trail : ℕ → List ℕ} {s : State} {t : ℕ} 
         HolderStep m p g trail (s .table) t (s .now' p) (counted m) (c .own p) (Updating j (passedWith (m .cpus) q limit'))
     unfolding Writer PhaseFacts ScanFacts ReclaimFacts holds holdsIn passed passedIn passedScan passedReclaim
     past-with limit' after = elim (cases-lt (q + 1) (m .cpus)) [
-          inl l ↦ rw (lt-ltb (q + 1) (m .cpus) l) (loads i (s .now' p) (c .own p) _ (facts .0, l) after refl)
-        | inr l ↦ rw (le-ltb (q + 1) (m .cpus) l) (loads i (s .now' p) (c .own p) _ (facts .0) (λ r d small a z. after r d (omega arith) a z) refl) ]
+          inl l ↦ rw (lt-ltb (q + 1) (m .cpus) l) (loads i (s .now' p) (c .own p) _ (known' .0, l) after refl)
+        | inr l ↦ rw (le-ltb (q + 1) (m .cpus) l) (loads i (s .now' p) (c .own p) _ (known' .0) (λ r d small a z. after r d (omega arith) a z) refl) ]
 
     -- A look at processor q for the least epoch that is announced.
     pub for-limit-step : HolderStep m p g trail (s .table) t (s .now' p) (counted m) (c .own p) (Updating j (scanAfter (m .cpus) (ForLimit q limit) (sees p 0 (16 + q) m)))
-    for-limit-step = rw (active-seen (facts .0 .retires .has .row) q)
+    for-limit-step = rw (active-seen (known' .0 .retires .has .row) q)
         (past-with (least (announced (c .work q)) limit) (passes q limit (least (announced (c .work q)) limit) upto (least-less (announced (c .work q)) limit) (least-seen (announced (c .work q)) limit)))

@@ -4,6 +4,8 @@ pub mod Apart
 pub mod Arriving
 pub mod Calm
 pub mod Holding
+pub mod Local
+pub mod Lookups
 pub mod Moment
 pub mod Rely
 pub mod Ripening

@@ -12,8 +12,10 @@ use Rattle.routes.specs.declared.Piece.{Piece}
 use Rattle.routes.specs.declared.update.job.Job.{Job}
 use Rattle.routes.specs.counts.Counts.{bit, cnt, seg}
 use Rattle.routes.specs.machine.Jobs.{having, using'}
+use Rattle.routes.specs.invariant.Ghosts.{Ghost}
 use Rattle.routes.specs.invariant.Readers.{Pending}
 use Rattle.routes.specs.invariant.Holders.{gotBlocks, restBlocks}
+use Rattle.routes.proofs.invariant.Apart.{uses}
 use Rattle.routes.proofs.counts.Segments.{seg-first, seg-in, cnt-split, cnt-put}
 
 -- A piece is four words.
@@ -72,3 +74,7 @@ module _ (o : List ℕ) (j : Job) where
       let in' = seg-in (wordsOf o) (freshAt (j .used)) (j .got - j .used) 0 (omega arith) in
       let q : freshAt (j .used) + 0 ≡ freshAt (j .used) = omega arith in
       subst (λ i. 1 ≤ cnt (wordsOf o i) (restBlocks o j)) q in'
+
+-- A fresh block is in use.
+pub fresh-used : (g : Ghost) (xs : List ℕ) (b : ℕ) → g .fresh ≡ xs → 1 ≤ cnt b xs → 1 ≤ uses g b
+fresh-used g xs b e n = let z : cnt b (g .fresh) ≡ cnt b xs = ap (cnt b) e in omega arith

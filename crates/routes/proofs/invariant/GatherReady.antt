@@ -2,10 +2,9 @@
 use mathlib.Core.Path.{_≡_, refl, sym, subst}
 use mathlib.Core.Bool.{true}
 use mathlib.Core.List.{List}
-use Prim.Native.Nat.{ℕ, _+_, _-_, _^_, _<_, _≤_}
+use Prim.Native.Nat.{ℕ, _+_, _^_, _<_, _≤_}
 use native.Mathlib.Omega.{arith}
 use Rattle.std.proofs.shelf.Tests.{eq-eqb}
-use Rattle.own.specs.Layout.{wordsOf, freshAt}
 use Rattle.routes.specs.declared.update.job.Job.{Job}
 use Rattle.routes.specs.declared.update.finish.Finish.{Finish}
 use Rattle.routes.specs.declared.update.finish.Finish.the-variants.{Unused, Unlock}
@@ -30,13 +29,12 @@ use Rattle.routes.specs.invariant.Retiring.{ReclaimFacts, FinishFacts}
 use Rattle.routes.specs.invariant.Writers.{PhaseFacts, ScanFacts}
 use Rattle.routes.specs.invariant.Inv.{Inv, Cpus}
 use Rattle.routes.proofs.invariant.Apart.{uses, solid, used-held, used-inside, header-held, header-inside}
-use Rattle.routes.proofs.invariant.FreshBlocks.{got-last, rest-first}
 use Rattle.routes.proofs.invariant.HeadRows.{heads-row, heads-none-to}
 use Rattle.routes.proofs.invariant.Holding.{holder-small, holder-room, holder-facts}
 use Rattle.routes.proofs.invariant.Needs.{need-few}
-use Rattle.routes.proofs.invariant.Obtains.{undo-block}
+use Rattle.routes.proofs.invariant.Obtains.{undo-used, undo-block}
 use Rattle.routes.proofs.invariant.Recycles.{oldest-in}
-use Rattle.routes.proofs.invariant.Reclaims.{unused-block}
+use Rattle.routes.proofs.invariant.Reclaims.{unused-used, unused-block}
 use Rattle.routes.proofs.invariant.Steps.{lockOf}
 
 module _ {m : Mem} {g : Ghost} {trail : ℕ → List ℕ} {s : State} {t : ℕ} {c : Cpus} {p : ℕ} (i : Inv m (lockOf p true) g trail s t c) (left : 0 < m .left) (mine : p ≡ m .who) where
@@ -73,8 +71,7 @@ module _ {m : Mem} {g : Ghost} {trail : ℕ → List ℕ} {s : State} {t : ℕ} 
         record { ok = (f .wants', need-few (f .gathered .sure)); room = holder-room i; may = (left, mine, holder-small i) }
     obtain-ready Undo e = let f = holder-facts i j (InObtain Undo) e in
         record { ok = (f .1, f .0 .few); room = holder-room i
-          ; may = rw (undo-block i j e) (release-used (wordsOf o (freshAt (j .got - 1))) (f .0 .has .row)
-              (let z : 1 ≤ cnt (wordsOf o (freshAt (j .got - 1))) (g .fresh) = subst (λ l. 1 ≤ cnt (wordsOf o (freshAt (j .got - 1))) l) (sym (f .0 .has .fresh)) (got-last o j (f .1)) in omega arith)) }
+          ; may = rw (undo-block i j e) (release-used _ (f .0 .has .row) (undo-used i j e)) }
     obtain-ready Full e = record { ok = tt; room = holder-room i; may = touch-header 0 (omega arith) }
 
     -- Recycle.
@@ -117,6 +114,5 @@ module _ {m : Mem} {g : Ghost} {trail : ℕ → List ℕ} {s : State} {t : ℕ} 
     unfolding PhaseFacts FinishFacts
     finish-ready Unused e = let f = holder-facts i j (InFinish Unused) e in
         record { ok = omega (arith, f .1, f .0 .retires .few); room = holder-room i
-          ; may = rw (unused-block i j e) (release-used (wordsOf o (freshAt (j .used))) (f .0 .retires .has .row)
-              (let z : 1 ≤ cnt (wordsOf o (freshAt (j .used))) (g .fresh) = subst (λ l. 1 ≤ cnt (wordsOf o (freshAt (j .used))) l) (sym (f .0 .retires .has .fresh)) (rest-first o j (f .1)) in omega arith)) }
+          ; may = rw (unused-block i j e) (release-used _ (f .0 .retires .has .row) (unused-used i j e)) }
     finish-ready Unlock e = record { ok = tt; room = holder-room i; may = touch-header 0 (omega arith) }

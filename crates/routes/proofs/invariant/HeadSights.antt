@@ -14,6 +14,10 @@ use Rattle.routes.proofs.invariant.Chains.{chain-header, chain-real, chain-res
 use Rattle.routes.proofs.invariant.HeadCores.{regroup}
 
 module _ {v : ℕ → ℕ → ℕ} {g : Ghost} {arrived t : ℕ} (s : Sight v g arrived t) where
+  -- What follows the oldest retired node begins the rest of the chain.
+  pub chain-follows : (b next : ℕ) (bs : List ℕ) → g .chain ≡ b ∷ bs → v b 32 ≡ next → Chain v next bs
+  chain-follows b next bs ch follows = subst (λ z. Chain v z bs) follows (chain-rest v (v 0 3) b bs (subst (Chain v (v 0 3)) ch (s .linked)))
+
   -- The oldest retired node is unlinked: LIMBO_HEAD is what followed it.
   pub sight-head : (b next : ℕ) (bs loose fresh : List ℕ) (torn : Bool) → g .chain ≡ b ∷ bs → v b 32 ≡ next → (torn ≡ false → v 0 4 ≡ lastFrom 0 bs) →
       ((c : ℕ) → 1 ≤ cnt c loose → 1 ≤ cnt c (g .chain) + cnt c (g .loose)) → Sight (setVal 0 3 next v) (regroup g bs loose fresh torn heads) arrived t
@@ -28,7 +32,7 @@ module _ {v : ℕ → ℕ → ℕ} {g : Ghost} {arrived t : ℕ} (s : Sight v g 
         | inr k ↦ s .newest c (omega (arith, was c n)) ] }
     where
       rest : Chain v next bs
-      rest = subst (λ z. Chain v z bs) follows (chain-rest v (v 0 3) b bs (subst (Chain v (v 0 3)) ch (s .linked)))
+      rest = chain-follows b next bs ch follows
       in-chain : (c : ℕ) → 1 ≤ cnt c bs → 1 ≤ cnt c (g .chain)
       in-chain c n = subst (λ z. 1 ≤ cnt c z) (sym ch) (omega arith)
 
@@ -36,8 +40,7 @@ module _ {v : ℕ → ℕ → ℕ} {g : Ghost} {arrived t : ℕ} (s : Sight v g 
   pub last-kept : (b next : ℕ) (bs : List ℕ) → g .chain ≡ b ∷ bs → v b 32 ≡ next → (next ≡ 0 → ⊥) → g .torn ≡ false → v 0 4 ≡ lastFrom 0 bs
   unfolding lastFrom
   last-kept b next bs ch follows some whole =
-      let rest : Chain v (v b 32) bs = chain-rest v (v 0 3) b bs (subst (Chain v (v 0 3)) ch (s .linked)) in
-      s .ending whole ∙ (ap (lastFrom 0) ch ∙ last-rest v (v b 32) b 0 bs rest (λ z. some (sym follows ∙ z)))
+      s .ending whole ∙ (ap (lastFrom 0) ch ∙ last-rest v next b 0 bs (chain-follows b next bs ch follows) some)
 
   -- Nothing is linked, and LIMBO_TAIL says so.
   pub sight-tail : g .chain ≡ [] → Sight (setVal 0 4 0 v) (regroup g [] (g .loose) (g .fresh) false heads) arrived t

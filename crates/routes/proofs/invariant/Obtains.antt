@@ -1,5 +1,5 @@
 -- The turns of Obtain: a block is got, there is none, or what was got goes back.
-use mathlib.Core.Path.{_≡_, refl, sym, ap, subst, _∙_}
+use mathlib.Core.Path.{_≡_, refl, ap, _∙_}
 use mathlib.Core.Bool.{true, false}
 use mathlib.Core.List.{List}
 use Prim.Native.Nat.{ℕ, suc, _+_, _-_, _<_, _≤_}
@@ -24,14 +24,14 @@ use Rattle.routes.specs.invariant.Gathering.{Gathers, Undoes, ObtainFacts, Rec
 use Rattle.routes.specs.invariant.Registers.{holds, holdsIn, passed, passedIn, passedRecycle}
 use Rattle.routes.specs.invariant.Writers.{Writer, PhaseFacts}
 use Rattle.routes.specs.invariant.Inv.{Inv, Cpus}
-use Rattle.routes.proofs.invariant.Apart.{used-small}
+use Rattle.routes.proofs.invariant.Apart.{uses, used-small}
 use Rattle.routes.proofs.invariant.HeadRows.{HeadsRow, heads-row}
 use Rattle.routes.proofs.invariant.HeadCores.{regroup, core-release, core-obtain, leaves-obtain, leaves-regroup}
-use Rattle.routes.proofs.invariant.FreshBlocks.{more, got-more, pending-more, got-less, got-last}
+use Rattle.routes.proofs.invariant.FreshBlocks.{more, got-more, got-less, got-last, fresh-used}
 use Rattle.routes.proofs.invariant.Holding.{holder-facts, holder-room}
 use Rattle.routes.proofs.invariant.Steps.{lockOf}
 use Rattle.routes.proofs.invariant.HolderSteps.{HolderStep, loads}
-use Rattle.routes.proofs.invariant.Gatherings.{gathers-on, undoes-on}
+use Rattle.routes.proofs.invariant.Gatherings.{gathered-more, gathers-on, undoes-on}
 use Rattle.routes.proofs.invariant.Needs.{need-few}
 
 module _ {m : Mem} {g : Ghost} {trail : ℕ → List ℕ} {s : State} {t : ℕ} {c : Cpus} {p : ℕ} (i : Inv m (lockOf p true) g trail s t c) (j : Job) where
@@ -60,9 +60,7 @@ module _ {m : Mem} {g : Ghost} {trail : ℕ → List ℕ} {s : State} {t : ℕ} 
         gathers-on (regroup g (g .chain) (g .loose) (gotBlocks (more o j b (holder-room i) got-few) (having (j .got + 1) j)) (g .torn) heads) (having (j .got + 1) j)
           (core-obtain (i .core) row b words inside free same _ (λ d. got-more o j b (holder-room i) got-few d ∙ (let z : cnt d (g .fresh) ≡ cnt d (gotBlocks o j) = ap (cnt d) (known .gathered .has .fresh) in omega arith)))
           (λ q. leaves-obtain (i .core) row b words inside free same _ heads (trail q) q (i .readers q .safe))
-          (record { has = record { row = refl; loose = known .gathered .has .loose; fresh = refl }; ps = known .gathered .ps; qs = known .gathered .qs; awaits = known .gathered .awaits
-            ; sure = record { pending = pending-more o j b (holder-room i) got-few (j .size) (known .gathered .ps) (known .gathered .sure .pending); makes = known .gathered .sure .makes; need = known .gathered .sure .need }
-            ; enough = omega (arith, known .wants'); used = known .gathered .used; retired = known .gathered .retired })
+          (gathered-more (holder-room i) got-few known b (record { row = refl; loose = known .gathered .has .loose; fresh = refl }))
           (known .whole)
 
     -- There is none: every block is in use.
@@ -78,11 +76,15 @@ module _ {m : Mem} {g : Ghost} {trail : ℕ → List ℕ} {s : State} {t : ℕ} 
     unfolding PhaseFacts ObtainFacts
     undo = holder-facts i j (InObtain Undo) e
 
-    -- The last of those got is the one that is given back.
-    pub undo-block : freshIn o (j .got - 1) ≡ wordsOf o (freshAt (j .got - 1))
-    undo-block = child-same _ (used-small (i .core) _ (let z : 1 ≤ cnt (wordsOf o (freshAt (j .got - 1))) (g .fresh) = subst (λ l. 1 ≤ cnt (wordsOf o (freshAt (j .got - 1))) l) (sym (undo .0 .has .fresh)) (got-last o j (undo .1)) in omega arith))
+    -- The last of those got is in use.
+    pub undo-used : 1 ≤ uses g (wordsOf o (freshAt (j .got - 1)))
+    undo-used = fresh-used g _ _ (undo .0 .has .fresh) (got-last o j (undo .1))
 
-    -- It is given back.
+    -- It is the one that is given back.
+    pub undo-block : freshIn o (j .got - 1) ≡ wordsOf o (freshAt (j .got - 1))
+    undo-block = child-same _ (used-small (i .core) _ undo-used)
+
+    -- So it goes.
     pub undo-step : HolderStep m p g trail (s .table) t (s .now' p) (counted (released (freshIn o (j .got - 1)) m)) o (workOfUpdate (obtainAfter j Undo 0))
     undo-step = rw undo-block
         (undoes-on (regroup g (g .chain) (g .loose) (gotBlocks o (having (j .got - 1) j)) (g .torn) heads) (having (j .got - 1) j)

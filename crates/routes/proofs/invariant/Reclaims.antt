@@ -27,19 +27,19 @@ use Rattle.routes.specs.machine.Jobs.{using'}
 use Rattle.routes.specs.machine.Obtains.{freshIn}
 use Rattle.routes.specs.machine.Reclaims.{reclaimAfter}
 use Rattle.routes.specs.invariant.Ghosts.{Ghost, heads, limbo}
-use Rattle.routes.specs.invariant.Memories.{Chain, Core}
+use Rattle.routes.specs.invariant.Memories.{Core}
 use Rattle.routes.specs.invariant.Holders.{Oldest, restBlocks}
 use Rattle.routes.specs.invariant.Retiring.{Retires, Reclaims, ReclaimFacts, FinishFacts}
 use Rattle.routes.specs.invariant.Registers.{holds, holdsIn, passed, passedIn, passedReclaim}
 use Rattle.routes.specs.invariant.Writers.{Writer, PhaseFacts}
 use Rattle.routes.specs.invariant.Inv.{Inv, Cpus}
 use Rattle.routes.proofs.invariant.Rely.{Leaves, leaves-same}
-use Rattle.routes.proofs.invariant.Apart.{used-small}
-use Rattle.routes.proofs.invariant.Chains.{chain-rest, chain-none}
+use Rattle.routes.proofs.invariant.Apart.{uses, used-small}
+use Rattle.routes.proofs.invariant.Chains.{chain-none}
 use Rattle.routes.proofs.invariant.HeadRows.{heads-row}
 use Rattle.routes.proofs.invariant.HeadCores.{regroup, core-set, core-release, leaves-regroup}
-use Rattle.routes.proofs.invariant.HeadSights.{sight-head, sight-tail, last-kept}
-use Rattle.routes.proofs.invariant.FreshBlocks.{rest-less, rest-first}
+use Rattle.routes.proofs.invariant.HeadSights.{chain-follows, sight-head, sight-tail, last-kept}
+use Rattle.routes.proofs.invariant.FreshBlocks.{rest-less, rest-first, fresh-used}
 use Rattle.routes.proofs.invariant.Holding.{core-counted, holder-facts, holder-scanned}
 use Rattle.routes.proofs.invariant.Steps.{lockOf}
 use Rattle.routes.proofs.invariant.HolderSteps.{HolderStep, off-trail, loads}
@@ -130,11 +130,8 @@ module _ {m : Mem} {g : Ghost} {trail : ℕ → List ℕ} {s : State} {t : ℕ} 
       unfolding Writer PhaseFacts ReclaimFacts holds holdsIn passed passedIn passedReclaim
       set-head-step = elim (eqb-tells next 0) [
             inl y ↦ rw (y .0) (record { ghost = cut true; core = core' true (λ w. absurd (true≢false w)); leaves = leaves' true
-              ; facts = (facts' true, chain-none (view p m) next (known .1 .0) rest (y .1), known .2); scanned = scanned' true; holding = refl })
+              ; facts = (facts' true, chain-none (view p m) next (known .1 .0) (chain-follows (i .core .sight) b next (known .1 .0) (known .1 .1) (known .3)) (y .1), known .2); scanned = scanned' true; holding = refl })
           | inr y ↦ rw (y .0) (record { ghost = cut false; core = core' false (λ w. y .1); leaves = leaves' false; facts = (facts' false, refl, known .2); scanned = scanned' false; holding = refl }) ]
-        where
-          rest : Chain (view p m) next (known .1 .0)
-          rest = subst (λ z. Chain (view p m) z (known .1 .0)) (known .3) (chain-rest (view p m) (view p m 0 3) b (known .1 .0) (subst (Chain (view p m) (view p m 0 3)) (known .1 .1) (i .core .sight .linked)))
 
     -- It was the last: LIMBO_TAIL says so.
     pub set-tail-step : (b : ℕ) → c .work p ≡ Updating j (InReclaim (SetTail grace left b)) → Goes (counted (stored p 0 4 0 m)) (reclaimAfter j (SetTail grace left b) 0)
@@ -196,11 +193,15 @@ module _ {m : Mem} {g : Ghost} {trail : ℕ → List ℕ} {s : State} {t : ℕ} 
     unfolding PhaseFacts FinishFacts
     rests = holder-facts i j (InFinish Unused) e
 
-    -- The first fresh block that was not used is the one that is given back.
-    pub unused-block : freshIn o (j .used) ≡ wordsOf o (freshAt (j .used))
-    unused-block = child-same _ (used-small (i .core) _ (let z : 1 ≤ cnt (wordsOf o (freshAt (j .used))) (g .fresh) = subst (λ l. 1 ≤ cnt (wordsOf o (freshAt (j .used))) l) (sym (rests .0 .retires .has .fresh)) (rest-first o j (rests .1)) in omega arith))
+    -- The first fresh block that was not used up is still held.
+    pub unused-used : 1 ≤ uses g (wordsOf o (freshAt (j .used)))
+    unused-used = fresh-used g _ _ (rests .0 .retires .has .fresh) (rest-first o j (rests .1))
 
-    -- It is given back.
+    -- It is the one that is given back.
+    pub unused-block : freshIn o (j .used) ≡ wordsOf o (freshAt (j .used))
+    unused-block = child-same _ (used-small (i .core) _ unused-used)
+
+    -- So it goes.
     pub unused-step : HolderStep m p g trail (s .table) t (s .now' p) (counted (released (freshIn o (j .used)) m)) o (workOfUpdate (finishAfter j Unused 0))
     unused-step = rw unused-block
         (finishes-on (regroup g (g .chain) (g .loose) (restBlocks o (using' (j .used + 1) j)) (g .torn) heads) (using' (j .used + 1) j)

@@ -34,15 +34,15 @@ use Rattle.routes.specs.invariant.Inv.{Inv, Cpus}
 use Rattle.routes.proofs.late.View.{open-block, view-open}
 use Rattle.routes.proofs.invariant.Rely.{Leaves, leaves-same}
 use Rattle.routes.proofs.invariant.Apart.{solid, used-small}
-use Rattle.routes.proofs.invariant.Chains.{chain-first, chain-rest, chain-none}
+use Rattle.routes.proofs.invariant.Chains.{chain-first, chain-none}
 use Rattle.routes.proofs.invariant.HeadRows.{heads-row}
 use Rattle.routes.proofs.invariant.HeadCores.{regroup, core-set, leaves-regroup}
-use Rattle.routes.proofs.invariant.HeadSights.{sight-head, sight-tail, last-kept}
-use Rattle.routes.proofs.invariant.FreshBlocks.{more, got-more, pending-more}
+use Rattle.routes.proofs.invariant.HeadSights.{chain-follows, sight-head, sight-tail, last-kept}
+use Rattle.routes.proofs.invariant.FreshBlocks.{more, got-more}
 use Rattle.routes.proofs.invariant.Steps.{lockOf}
 use Rattle.routes.proofs.invariant.HolderSteps.{HolderStep, off-trail, loads}
 use Rattle.routes.proofs.invariant.Holding.{core-counted, holder-facts, holder-room, holder-scanned}
-use Rattle.routes.proofs.invariant.Gatherings.{gathers-on, undoes-on}
+use Rattle.routes.proofs.invariant.Gatherings.{gathered-more, gathers-on, undoes-on}
 use Rattle.routes.proofs.invariant.Needs.{need-few, full-is}
 
 module _ {m : Mem} {g : Ghost} {trail : ℕ → List ℕ} {s : State} {t : ℕ} {c : Cpus} {p : ℕ} (i : Inv m (lockOf p true) g trail s t c) where
@@ -62,9 +62,8 @@ module _ {m : Mem} {g : Ghost} {trail : ℕ → List ℕ} {s : State} {t : ℕ} 
   pub follower-fits : (b : ℕ) → Oldest g b → childOf (sees p b 32 m) ≡ view p m b 32
   unfolding cnt
   follower-fits b e =
-      let l : Chain (view p m) (view p m b 32) (e .0) = chain-rest (view p m) (view p m 0 3) b (e .0) (subst (Chain (view p m) (view p m 0 3)) (e .1) (i .core .sight .linked)) in
       ap childOf (sym (view-open p m b 32 (open-block b 32 (solid (i .core) b (let z = oldest-in b e in omega arith))))) ∙
-        chain-fits (view p m b 32) (e .0) l (λ d n. subst (λ ds. 1 ≤ cnt d ds) (sym (e .1)) (omega arith))
+        chain-fits (view p m b 32) (e .0) (chain-follows (i .core .sight) b (view p m b 32) (e .0) (e .1) refl) (λ d n. subst (λ ds. 1 ≤ cnt d ds) (sym (e .1)) (omega arith))
 
   -- Its stamp is seen as it is.
   pub stamp-seen : (b : ℕ) → Oldest g b → sees p b 31 m ≡ g .stamps b
@@ -173,20 +172,15 @@ module _ {m : Mem} {g : Ghost} {trail : ℕ → List ℕ} {s : State} {t : ℕ} 
 
     -- One block more is got.
     facts' : (torn : Bool) → Gathered (recycled torn) (more o j b (holder-room i) reuse-few) (s .table) (s .now' p) (having (j .got + 1) j)
-    facts' torn = record { has = record { row = refl; loose = refl; fresh = refl }; ps = known .0 .gathered .ps; qs = known .0 .gathered .qs; awaits = known .0 .gathered .awaits
-        ; sure = record { pending = pending-more o j b (holder-room i) reuse-few (j .size) (known .0 .gathered .ps) (known .0 .gathered .sure .pending); makes = known .0 .gathered .sure .makes; need = known .0 .gathered .sure .need }
-        ; enough = omega (arith, known .0 .wants'); used = known .0 .gathered .used; retired = known .0 .gathered .retired }
+    facts' torn = gathered-more (holder-room i) reuse-few (known .0) b (record { row = refl; loose = refl; fresh = refl })
 
     -- The node leaves the chain and is fresh, in one store.
     pub set-head-step : HolderStep m p g trail (s .table) t (s .now' p) (counted (stored p 0 3 next m)) (recycleWords j (SetHead b next grace) o 0) (workOfUpdate (recycleAfter j (SetHead b next grace) 0))
     unfolding Writer PhaseFacts RecycleFacts holds holdsIn passed passedIn passedRecycle
     set-head-step = elim (eqb-tells next 0) [
           inl y ↦ rw (y .0) (record { ghost = recycled true; core = core' true (λ w. absurd (true≢false w)); leaves = leaves' true
-            ; facts = (facts' true, chain-none (view p m) next (known .1 .0) rest (y .1)); scanned = λ q d l. absurd (omega arith); holding = refl })
+            ; facts = (facts' true, chain-none (view p m) next (known .1 .0) (chain-follows (i .core .sight) b next (known .1 .0) (known .1 .1) (known .3)) (y .1)); scanned = λ q d l. absurd (omega arith); holding = refl })
         | inr y ↦ rw (y .0) (gathers-on (recycled false) (having (j .got + 1) j) (core' false (λ w. y .1)) (leaves' false) (facts' false) refl) ]
-      where
-        rest : Chain (view p m) next (known .1 .0)
-        rest = subst (λ z. Chain (view p m) z (known .1 .0)) (known .3) (chain-rest (view p m) (view p m 0 3) b (known .1 .0) (subst (Chain (view p m) (view p m 0 3)) (known .1 .1) (i .core .sight .linked)))
 
   -- It was the last: LIMBO_TAIL says so.
   pub set-tail-step : c .work p ≡ Updating j (InRecycle SetTail) → HolderStep m p g trail (s .table) t (s .now' p) (counted (stored p 0 4 0 m)) o (workOfUpdate (recycleAfter j SetTail 0))

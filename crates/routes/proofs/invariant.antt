@@ -4,3 +4,8 @@ pub mod BuildReady
 pub mod PublishReady
 pub mod Joining
 pub mod RetireReady
+pub mod GoingOn
+pub mod OwnStays
+pub mod BuildStarts
+pub mod BuildReads
+pub mod BuildWrites

@@ -1,0 +1,34 @@
+-- What comes next in an update, with its facts.
+use mathlib.Core.Path.{_≡_, refl}
+use mathlib.Core.Bool.{Bool, true, false, cond}
+use mathlib.Core.List.{List}
+use Prim.Native.Nat.{ℕ}
+use Rattle.routes.specs.declared.update.job.Job.{Job}
+use Rattle.routes.specs.declared.update.Phase.{Phase}
+use Rattle.routes.specs.declared.update.UpdateNext.{UpdateNext}
+use Rattle.routes.specs.declared.update.UpdateNext.the-variants.{On}
+use Rattle.routes.specs.Routes.{Route, Now}
+use Rattle.routes.specs.invariant.Ghosts.{Ghost}
+use Rattle.routes.specs.invariant.Writers.{Hall, PhaseFacts}
+
+-- it goes on in a phase, and the facts of that phase hold
+pub record GoesOn (v : ℕ → ℕ → ℕ) (hall : Hall) (g : Ghost) (o : List ℕ) (rs : List Route) (n : Now) (next : UpdateNext) : Type 0 where
+  pub job : Job
+  pub phase : Phase
+  pub is : next ≡ On job phase
+  pub facts : PhaseFacts v hall g o rs n job phase
+
+module _ (v : ℕ → ℕ → ℕ) (hall : Hall) (g : Ghost) (o : List ℕ) (rs : List Route) (n : Now) where
+  -- To a phase whose facts hold.
+  pub on-to : (j : Job) (s : Phase) → PhaseFacts v hall g o rs n j s → GoesOn v hall g o rs n (On j s)
+  on-to j s f = record { job = j; phase = s; is = refl; facts = f }
+
+  -- By a test.
+  pub on-if : (b : Bool) (x y : UpdateNext) → (b ≡ true → GoesOn v hall g o rs n x) → (b ≡ false → GoesOn v hall g o rs n y) → GoesOn v hall g o rs n (cond b x y)
+  on-if true x y f h = f refl
+  on-if false x y f h = h refl
+
+  -- The facts of a phase, by a test.
+  pub facts-if : (j : Job) (b : Bool) (x y : Phase) → (b ≡ true → PhaseFacts v hall g o rs n j x) → (b ≡ false → PhaseFacts v hall g o rs n j y) → PhaseFacts v hall g o rs n j (cond b x y)
+  facts-if j true x y f h = f refl
+  facts-if j false x y f h = h refl

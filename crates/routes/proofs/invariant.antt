@@ -9,3 +9,4 @@ pub mod OwnStays
 pub mod BuildStarts
 pub mod BuildReads
 pub mod BuildWrites
+pub mod BuildEdits

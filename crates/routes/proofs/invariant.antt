@@ -10,3 +10,6 @@ pub mod BuildStarts
 pub mod BuildReads
 pub mod BuildWrites
 pub mod BuildEdits
+pub mod CalmRows
+pub mod Sights
+pub mod RetireFollows

@@ -13,3 +13,10 @@ pub mod BuildEdits
 pub mod CalmRows
 pub mod Sights
 pub mod RetireFollows
+pub mod Aging
+pub mod Alike
+pub mod Apart
+pub mod Holding
+pub mod Rely
+pub mod Steps
+pub mod Storing

@@ -37,7 +37,7 @@ use Rattle.routes.proofs.build.Loops.{edit-piece, levels-piece, words-edit}
 use Rattle.routes.proofs.build.Stages.{stage-edit}
 use Rattle.routes.proofs.build.Turns.{levels-after}
 use Rattle.routes.proofs.counts.Segments.{seg-in}
-use Rattle.routes.proofs.invariant.GoingOn.{GoesOn, on-to}
+use Rattle.routes.proofs.invariant.GoingOn.{GoesOn, on-build}
 use Rattle.routes.proofs.invariant.OwnStays.{SameBut, equipped-stays}
 use Rattle.routes.proofs.invariant.Staging.{need-few, staged-piece, staged-clean, staged-words}
 
@@ -139,7 +139,7 @@ module _ (v : ℕ → ℕ → ℕ) (hall : Hall) (g : Ghost) (o : List ℕ) (rs 
     -- What comes next: the first word of the first new node.
     pub images-edited : (x : ℕ) → GoesOn v hall g after rs n (buildAfter j (Edit k have) o x)
     unfolding PhaseFacts BuildFacts
-    images-edited x = on-to v hall g after rs n job (InBuild (ToWrite k (j .used) 0 0)) (record {
+    images-edited x = on-build v hall g after rs n job (ToWrite k (j .used) 0 0) (record {
         ps = s .ps; qs = s .qs; ts = s .ts; equipped = equipped-after; here = s .here; p = piece; is = refl; W = W; val = v; own = wordsOf o; root = j .root; retired = j .retired; have = have;
         fresh = change .fresh; stage = staged-piece v g o rs n j k W s; few = f .few; replaced = refl; uses = ap (λ z. j .used + z) levels-are; write = write-begins;
         deep = edit-some change 0 way W; word = omega arith })

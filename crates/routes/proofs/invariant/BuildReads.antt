@@ -31,7 +31,7 @@ use Rattle.routes.specs.invariant.Writers.{Hall, PhaseFacts}
 use Rattle.routes.proofs.build.Reads.{read-word, read-child, read-level, read-end}
 use Rattle.routes.proofs.build.Stages.{stage-stays}
 use Rattle.routes.proofs.invariant.BuildReady.{staged-room}
-use Rattle.routes.proofs.invariant.GoingOn.{GoesOn, on-to, on-if}
+use Rattle.routes.proofs.invariant.GoingOn.{GoesOn, on-build, on-if}
 use Rattle.routes.proofs.invariant.OwnStays.{SameBut, equipped-stays}
 use Rattle.routes.proofs.invariant.Staging.{need-few, staged-words, staged-deep}
 
@@ -89,13 +89,13 @@ module _ (v : ℕ → ℕ → ℕ) (hall : Hall) (g : Ghost) (o : List ℕ) (rs 
     pub word-read : Reading (wordsOf o) W (j .retired) (piece .bits) d i b → GoesOn v hall g after rs n (buildAfter j (Read k d i b) o (v b i))
     unfolding PhaseFacts BuildFacts
     word-read f = on-if v hall g after rs n (ltb i 30) _ _
-        (λ e. on-to v hall g after rs n j (InBuild (Read k d (i + 1) b))
+        (λ e. on-build v hall g after rs n j (Read k d (i + 1) b)
           (W, restaged s after same-but, (let q : suc i ≡ i + 1 = omega arith in subst (λ z. Reading (wordsOf after) W (j .retired) (piece .bits) d z b) q (more f)), hd, omega (arith, ltb-true i 30 e)))
         (λ e. on-if v hall g after rs n (eqb d (deepIn o k) || eqb (childIn after d (nib d (pieceIn o k .bits))) 0) _ _
-          (λ z. on-to v hall g after rs n j (InBuild (Edit k (d + 1)))
+          (λ z. on-build v hall g after rs n j (Edit k (d + 1))
             (W, restaged s after same-but, (let q : suc d ≡ d + 1 = omega arith in subst (λ z. Have (wordsOf after) W (j .retired) (piece .bits) z (piece .len / 4)) q
               (read-end v (wordsOf after) W (j .retired) (piece .bits) d b (piece .len / 4) (s .stage .work .repr) (whole e f) hd (ended e f z)))))
-          (λ z. on-to v hall g after rs n j (InBuild (Read k (d + 1) 0 (childIn after d (nib d (pieceIn o k .bits)))))
+          (λ z. on-build v hall g after rs n j (Read k (d + 1) 0 (childIn after d (nib d (pieceIn o k .bits))))
             (W, restaged s after same-but, (let q : suc d ≡ d + 1 = omega arith in subst (λ y. Reading (wordsOf after) W (j .retired) (piece .bits) y 0 (childIn after d (nib d (pieceIn o k .bits)))) q
               (read-level (wordsOf after) W (j .retired) (piece .bits) d b _ (whole e f) (child-is e f) (eqb-false _ 0 (or-parts _ _ z .1)))),
              (let h : d ≡ deepIn o k → ⊥ = eqb-false d (deepIn o k) (or-parts _ _ z .0) in let y = staged-deep v g o rs n j k W s in omega (arith, hd, y)), omega arith)))

@@ -34,7 +34,7 @@ use Rattle.routes.proofs.build.Stages.{stage-begin}
 use Rattle.routes.proofs.repr.Nodes.{repr-none}
 use Rattle.routes.proofs.table.Pieces.{changed-table}
 use Rattle.routes.proofs.invariant.BuildReady.{equipped-fresh}
-use Rattle.routes.proofs.invariant.GoingOn.{GoesOn, on-to, on-if}
+use Rattle.routes.proofs.invariant.GoingOn.{GoesOn, on-build, on-if}
 
 -- What holds of each piece by its number holds of each.
 each-piece : (P : Piece → Type 0) (ps : List Piece) → ((k : ℕ) → k < length ps → P (getD ps k blank)) → (p : Piece) → List·Memᴰ p ps → P p
@@ -48,9 +48,9 @@ module _ (v : ℕ → ℕ → ℕ) (hall : Hall) (g : Ghost) (o : List ℕ) (rs 
   pub starts : (j : Job) (k : ℕ) (W : Tree) → Staged v g o rs n j k W → GoesOn v hall g o rs n (starting j k)
   unfolding PhaseFacts BuildFacts
   starts j k W s = on-if v hall g o rs n (eqb (j .root) 0) _ _
-      (λ e. on-to v hall g o rs n j (InBuild (Edit k 0))
+      (λ e. on-build v hall g o rs n j (Edit k 0)
         (W, s, have-none (wordsOf o) W (j .retired) (getD (s .ps) k blank .bits) (getD (s .ps) k blank .len / 4) (repr-none v W (s .stage .work .repr) (sym (s .stage .work .held .top) ∙ eqb-true (j .root) 0 e))))
-      (λ e. on-to v hall g o rs n j (InBuild (Read k 0 0 (j .root)))
+      (λ e. on-build v hall g o rs n j (Read k 0 0 (j .root))
         (W, s, read-begin (wordsOf o) W (j .retired) (getD (s .ps) k blank .bits) (j .root) (s .stage .work .held .top) (eqb-false (j .root) 0 e), omega arith, omega arith))
 
   -- The root is loaded: the published tree is worked on, and all pieces are left.

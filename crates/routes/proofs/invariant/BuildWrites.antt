@@ -29,7 +29,7 @@ use Rattle.routes.specs.invariant.Writers.{Hall, PhaseFacts}
 use Rattle.routes.proofs.build.Stages.{stage-next, stage-end}
 use Rattle.routes.proofs.build.Writes.{write-word, write-level}
 use Rattle.routes.proofs.invariant.BuildStarts.{starts}
-use Rattle.routes.proofs.invariant.GoingOn.{GoesOn, on-to, on-if}
+use Rattle.routes.proofs.invariant.GoingOn.{GoesOn, on-build, on-publish, on-if}
 use Rattle.routes.proofs.invariant.Staging.{need-few}
 
 module _ (v : ℕ → ℕ → ℕ) (hall : Hall) (g : Ghost) (o : List ℕ) (rs : List Route) (n : Now) (j : Job) (k first d i : ℕ) (s : Writes v g o rs n j k first d i) where
@@ -72,11 +72,11 @@ module _ (v : ℕ → ℕ → ℕ) (hall : Hall) (g : Ghost) (o : List ℕ) (rs 
   pub word-written : GoesOn v' hall g o rs n (afterWrite j k first d i)
   unfolding PhaseFacts BuildFacts PublishFacts
   word-written = on-if v' hall g o rs n (ltb i 30) _ _
-      (λ e. on-to v' hall g o rs n j (InBuild (ToWrite k first d (i + 1)))
+      (λ e. on-build v' hall g o rs n j (ToWrite k first d (i + 1))
         (let q : suc i ≡ i + 1 = omega arith in
          at d (i + 1) (subst (λ z. Write v' (wordsOf o) (g .tree) (s .W) (editOf (s .p) (s .fresh)) way (j .need) first (j .retired) (j .root) d z) q one-more) (s .deep) (omega (arith, ltb-true i 30 e))))
       (λ e. on-if v' hall g o rs n (ltb (first + d + 1) (j .used)) _ _
-        (λ z. on-to v' hall g o rs n j (InBuild (ToWrite k first (d + 1) 0))
+        (λ z. on-build v' hall g o rs n j (ToWrite k first (d + 1) 0)
           (let q : suc d ≡ d + 1 = omega arith in
            at (d + 1) 0 (subst (λ z. Write v' (wordsOf o) (g .tree) (s .W) (editOf (s .p) (s .fresh)) way (j .need) first (j .retired) (j .root) z 0) q (level-more e))
              (omega (arith, ltb-true (first + d + 1) (j .used) z, s .uses)) (omega arith)))
@@ -92,5 +92,5 @@ module _ (v : ℕ → ℕ → ℕ) (hall : Hall) (g : Ghost) (o : List ℕ) (rs 
           let r = piece-done e z in let few = need-few g o rs n j calm (s .ps) (s .qs) (s .equipped) in
           let q : length (s .ps) ≤ suc k = omega (arith, ltb-false (k + 1) (j .size) l, s .equipped .sure .pending .length') in
           let f = subst (λ z. Stage v' (wordsOf o) (g .tree) new (j .need) (j .used) (j .retired) (j .root) (r .0) (s .qs) z) (drop-of-length-le (s .ps) q) (r .1) in
-          on-to v' hall g o rs n j (InPublish FenceNodes) (record { ps = s .ps; qs = s .qs; W = new; equipped = s .equipped;
+          on-publish v' hall g o rs n j FenceNodes (record { ps = s .ps; qs = s .qs; W = new; equipped = s .equipped;
             built = stage-end v' (wordsOf o) (g .tree) new (j .need) (j .used) (j .retired) (j .root) (r .0) (s .qs) f; spent = f .work .held .spent; few = omega (arith, f .slack) })

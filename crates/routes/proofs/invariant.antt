@@ -20,3 +20,6 @@ pub mod Holding
 pub mod Rely
 pub mod Steps
 pub mod Storing
+pub mod StoreKinds
+pub mod Rowing
+pub mod Taking

@@ -23,3 +23,5 @@ pub mod Storing
 pub mod StoreKinds
 pub mod Rowing
 pub mod Taking
+pub mod BuildTurns
+pub mod PublishTurns

@@ -16,8 +16,12 @@ pub mod RetireFollows
 pub mod Aging
 pub mod Alike
 pub mod Apart
+pub mod Arriving
+pub mod Calm
 pub mod Holding
+pub mod Moment
 pub mod Rely
+pub mod Ripening
 pub mod Steps
 pub mod Storing
 pub mod StoreKinds

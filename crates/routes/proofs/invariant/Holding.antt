@@ -14,7 +14,7 @@ use Rattle.routes.specs.declared.update.Phase.the-variants.{Refuse, Lock as At
 use Rattle.routes.specs.declared.work.Work.{Work}
 use Rattle.routes.specs.declared.work.Work.the-variants.{Idle, Lookup as Looking, Update as Updating}
 use Rattle.routes.specs.Memory.{Mem, counted}
-use Rattle.routes.specs.Routes.{Route, Event, Turned, Now, State, Run, turns, young, older, mustWait}
+use Rattle.routes.specs.Routes.{Route, Event, Turned, Now, State, Run, young, older, mustWait}
 use Rattle.routes.specs.counts.Counts.{cnt}
 use Rattle.routes.specs.late.View.{view}
 use Rattle.routes.specs.run.Nows.{isChange}
@@ -26,11 +26,11 @@ use Rattle.routes.specs.invariant.Registers.{holds, holdsIn, announced, loaded
 use Rattle.routes.specs.invariant.Writers.{PhaseFacts, Writer, hallOf}
 use Rattle.routes.specs.invariant.Inv.{Cpus, Inv}
 use Rattle.routes.proofs.late.View.{view-counted}
-use Rattle.routes.proofs.run.Steps.{now-own}
+use Rattle.routes.proofs.run.Steps.{now-own, now-other, turned-kind}
 use Rattle.routes.proofs.invariant.Aging.{phase-on}
-use Rattle.routes.proofs.invariant.Alike.{Alike, alike-turned, alike-on, saying-older}
+use Rattle.routes.proofs.invariant.Alike.{Alike, alike-hidden, saying-older}
 use Rattle.routes.proofs.invariant.Rely.{Leaves, leaves-same}
-use Rattle.routes.proofs.invariant.Steps.{lockOf, setCpu, Turn, Steps, steps-inv, holds-silent, busy-small}
+use Rattle.routes.proofs.invariant.Steps.{lockOf, setCpu, Turn, turn-on, steps-inv, holds-silent, busy-small}
 
 -- Of a phase that holds the lock, what it does is a change.
 updates-hold : (o : List ℕ) (j : Job) (s : Phase) (n : Now) → holdsIn s ≡ true → isChange n ≡ true → Updates o j s n
@@ -114,28 +114,24 @@ pub record Holds (m : Mem) (g : Ghost) (trail : ℕ → List ℕ) (p : ℕ) (m' 
 -- Any turn of the holder after which it still holds the lock.
 pub hold-turn : {m : Mem} {g : Ghost} {trail : ℕ → List ℕ} {s : State} {t : ℕ} {c : Cpus} {p cpus blocks : ℕ} {es : List Event} {m' : Mem} {g' : Ghost} {s' : State} {t' : ℕ} {j : Job} {ph : Phase} {own : List ℕ} →
     Inv m (lockOf p true) g trail s t c → Alike p s s' → Run cpus blocks es s' → T (young (s' .now' p)) → Holds m g trail p m' g' s' t' j ph own →
-    Turn m' t' (setCpu p (Updating j ph) own c) cpus blocks (Turned p ∷ es)
+    Turn m' t' (setCpu p (Updating j ph) own c) cpus blocks (Turned p ∷ es) p s
 unfolding holds announced loaded Does Writer passed
-hold-turn {m} {g} {trail} {s} {t} {c} {p} {cpus} {blocks} {es} {m'} {g'} {s'} {t'} {j} {ph} {own} i a r y n = record
-    { lock = lockOf p true; ghost = g'; trail = trail; state = turnedAt cpus p s'; run = turns p r y
-    ; inv = steps-inv i (record
-        { core = n .core
-        ; leaves = n .leaves
-        ; nows = both .nows
-        ; leads = λ q. ap (λ f. f q) (both .lead) ∙ i .leads q
-        ; others = others-free i
-        ; mine = n .holds'
-        ; cpus = n .cpus
-        ; small = holder-small i
-        ; silent = holds-silent (c .work p) (holder-holds i) .0
-        ; unloaded = refl
-        ; does = (holder-does i .0, updates-hold own j ph (turnedAt cpus p s' .now' p) (n .holds') (both .kind .change ∙ holder-does i .1))
-        ; room = n .room
-        ; writer = facts'
-        ; scanned = n .scanned }) }
+hold-turn {m} {g} {trail} {s} {t} {c} {p} {cpus} {blocks} {es} {m'} {g'} {s'} {t'} {j} {ph} {own} i a r y n = turn-on (alike-hidden a) r y (steps-inv i (record
+    { core = n .core
+    ; leaves = n .leaves
+    ; nows = λ q ne. now-other p q _ (s' .table) s' ne ∙ a .nows q ne
+    ; leads = λ q. ap (λ f. f q) (a .lead) ∙ i .leads q
+    ; others = others-free i
+    ; mine = n .holds'
+    ; cpus = n .cpus
+    ; small = holder-small i
+    ; silent = holds-silent (c .work p) (holder-holds i) .0
+    ; unloaded = refl
+    ; does = (holder-does i .0, updates-hold own j ph (turnedAt cpus p s' .now' p) (n .holds') (turned-kind cpus p p s' .change ∙ (a .kind .change ∙ holder-does i .1)))
+    ; room = n .room
+    ; writer = facts'
+    ; scanned = n .scanned }))
   where
-    both : Alike p s (turnedAt cpus p s')
-    both = alike-on a (alike-turned cpus p s')
     facts' : PhaseFacts (view p m') (hallOf m') g' own (s' .table) (turnedAt cpus p s' .now' p) j ph
     facts' = subst (λ z. PhaseFacts (view p m') (hallOf m') g' own (s' .table) z j ph) (sym (now-own p (older (mustWait cpus p s') (s' .now' p)) (s' .table) s'))
       (phase-on (view p m') (hallOf m') g' own (s' .table) (s' .now' p) (older (mustWait cpus p s') (s' .now' p)) j (saying-older (mustWait cpus p s') (s' .now' p)) ph (n .facts))
@@ -162,7 +158,7 @@ pub load-turn : {m : Mem} {g : Ghost} {trail : ℕ → List ℕ} {s : State} {t 
     Inv m (lockOf p true) g trail s t c → Alike p s s' → Run cpus blocks es s' → T (young (s' .now' p)) →
     holdsIn ph ≡ true → length own ≡ 4096 → PhaseFacts (view p m) (hallOf m) g own (s .table) (s' .now' p) j ph →
     ((q b : ℕ) → q < passedIn (m .cpus) ph .many → 1 ≤ cnt b (trail q) → 1 ≤ limbo g b → passedIn (m .cpus) ph .limit ≤ g .stamps b) →
-    Turn (counted m) t (setCpu p (Updating j ph) own c) cpus blocks (Turned p ∷ es)
+    Turn (counted m) t (setCpu p (Updating j ph) own c) cpus blocks (Turned p ∷ es) p s
 load-turn {m} {g} {trail} {s} {t} {c} {p} {s' = s'} j ph own i a r y h l f z = hold-turn i a r y (record
     { core = subst (λ rs. Core (counted m) p true g rs t) (sym (a .table)) (core-counted (i .core))
     ; leaves = λ q. leaves-same g (trail q) q refl
@@ -177,7 +173,7 @@ pub pause-turn : {m : Mem} {g : Ghost} {trail : ℕ → List ℕ} {s : State} {t
     Inv m (lockOf p true) g trail s t c → Alike p s s' → Run cpus blocks es s' → T (young (s' .now' p)) →
     holdsIn ph ≡ true → length own ≡ 4096 → PhaseFacts (view p m) (hallOf m) g own (s .table) (s' .now' p) j ph →
     ((q b : ℕ) → q < passedIn (m .cpus) ph .many → 1 ≤ cnt b (trail q) → 1 ≤ limbo g b → passedIn (m .cpus) ph .limit ≤ g .stamps b) →
-    Turn m t (setCpu p (Updating j ph) own c) cpus blocks (Turned p ∷ es)
+    Turn m t (setCpu p (Updating j ph) own c) cpus blocks (Turned p ∷ es) p s
 pause-turn {m} {g} {trail} {s} {t} {c} {p} {s' = s'} j ph own i a r y h l f z = hold-turn i a r y (record
     { core = subst (λ rs. Core m p true g rs t) (sym (a .table)) (i .core)
     ; leaves = λ q. leaves-same g (trail q) q refl

@@ -1,30 +1,33 @@
 -- A step of the lock's holder, or one that gets or gives up the lock: what has to be shown of it.
 use mathlib.Core.Path.{_≡_, refl, sym, ap, subst, _∙_}
 use mathlib.Core.Bool.{Bool, true, false, _&&_}
-use mathlib.Core.List.{List, []}
+use mathlib.Core.List.{List, _∷_}
 use mathlib.Core.Logic.{inl, inr}
 use Prim.Native.Nat.{ℕ, _<_, _≤_}
 use native.Mathlib.Omega.{arith}
-use lib.Dec.{eqb}
+use lib.Dec.{eqb, T}
 use lib.ListN.{length}
 use Rattle.std.proofs.shelf.Ways.{tells as tests, eqb-tells}
-use Rattle.std.proofs.shelf.Tests.{false≢true, true≢false, and-parts, eqb-true, eq-eqb, cases-lt}
-use Rattle.routes.specs.declared.update.job.Job.{Job}
-use Rattle.routes.specs.declared.update.Phase.{Phase}
+use Rattle.std.proofs.shelf.Tests.{false≢true, and-parts, eqb-true, cases-lt}
+use Rattle.routes.specs.declared.Answer.{Answer}
+use Rattle.routes.specs.declared.Ask.{Ask}
 use Rattle.routes.specs.declared.work.Work.{Work}
 use Rattle.routes.specs.declared.work.Work.the-variants.{Idle, Lookup as Looking, Update as Updating}
 use Rattle.routes.specs.Memory.{Mem, setAt}
-use Rattle.routes.specs.Routes.{Event, Now, State, Run}
+use Rattle.routes.specs.Routes.{Event, Told, Turned, Over, State, Run, turns, tells, young}
 use Rattle.routes.specs.counts.Counts.{cnt}
 use Rattle.routes.specs.late.View.{view}
 use Rattle.routes.specs.run.Nows.{OneLeader}
+use Rattle.routes.specs.run.Steps.{turnedAt, toldAt}
 use Rattle.routes.specs.invariant.Ghosts.{Ghost, limbo}
-use Rattle.routes.specs.invariant.Memories.{Sight, Core}
+use Rattle.routes.specs.invariant.Memories.{Core}
 use Rattle.routes.specs.invariant.Readers.{Does, Reader}
-use Rattle.routes.specs.invariant.Registers.{holds, holdsIn, announced, loaded, passed}
-use Rattle.routes.specs.invariant.Writers.{PhaseFacts, Writer, hallOf}
+use Rattle.routes.specs.invariant.Registers.{holds, announced, loaded, passed}
+use Rattle.routes.specs.invariant.Writers.{Writer, hallOf}
 use Rattle.routes.specs.invariant.Inv.{Lock, Cpus, Inv}
 use Rattle.routes.proofs.basics.Places.{setAt-hit}
+use Rattle.routes.proofs.run.Steps.{turned-over}
+use Rattle.routes.proofs.invariant.Alike.{Hidden, Ends, on, told, Passes, same}
 use Rattle.routes.proofs.invariant.Rely.{Leaves, reader-stays}
 
 -- p has the lock, or had it last
@@ -35,14 +38,34 @@ lockOf p held = record { who = p; held = held }
 abbrev pub setCpu : ℕ → Work → List ℕ → Cpus → Cpus
 setCpu p work own c = record { work = setAt p work (c .work); own = setAt p own (c .own) }
 
--- what a turn leads to: the invariant of the new memory and registers, and a run of what was seen
-pub record Turn (m : Mem) (t : ℕ) (c : Cpus) (cpus blocks : ℕ) (es : List Event) : Type 0 where
+-- what a turn of p leads to from state s: the invariant of the new memory and registers, a run of what was seen, and how its state comes from s:
+-- first hidden steps of p, then the turn is counted and may be told, then stores arrive
+pub record Turn (m : Mem) (t : ℕ) (c : Cpus) (cpus blocks : ℕ) (es : List Event) (p : ℕ) (s : State) : Type 0 where
   pub lock : Lock
   pub ghost : Ghost
   pub trail : ℕ → List ℕ
   pub state : State
   pub run : Run cpus blocks es state
   pub inv : Inv m lock ghost trail state t c
+  pub before : State
+  pub hidden : Hidden p s before
+  pub middle : State
+  pub ends : Ends cpus p before middle
+  pub nows : (q : ℕ) → Passes (middle .now' q) (state .now' q)
+  pub waits : state .waits ≡ middle .waits
+
+-- A turn in which nothing is told, right after it was asked.
+pub turn-on : {m : Mem} {t : ℕ} {c : Cpus} {cpus blocks : ℕ} {es : List Event} {p : ℕ} {s s' : State} {k : Lock} {g : Ghost} {trail : ℕ → List ℕ} →
+    Hidden p s s' → Run cpus blocks es s' → T (young (s' .now' p)) → Inv m k g trail (turnedAt cpus p s') t c → Turn m t c cpus blocks (Turned p ∷ es) p s
+turn-on {cpus = cpus} {p = p} {s' = s'} {k = k} {g = g} {trail = trail} h r y i = record
+  { lock = k; ghost = g; trail = trail; state = turnedAt cpus p s'; run = turns p r y; inv = i; before = s'; hidden = h; middle = turnedAt cpus p s'; ends = on; nows = λ q. same; waits = refl }
+
+-- A turn in which p tells its answer.
+pub turn-told : {m : Mem} {t : ℕ} {c : Cpus} {cpus blocks : ℕ} {es : List Event} {p : ℕ} {s s' : State} {k : Lock} {g : Ghost} {trail : ℕ → List ℕ} (ask : Ask) (a : Answer) (age : ℕ) →
+    Hidden p s s' → Run cpus blocks es s' → T (young (s' .now' p)) → s' .now' p ≡ Over ask a age → Inv m k g trail (toldAt p (turnedAt cpus p s')) t c → Turn m t c cpus blocks (Told p a ∷ Turned p ∷ es) p s
+turn-told {cpus = cpus} {p = p} {s' = s'} {k = k} {g = g} {trail = trail} ask a age h r y e i = record
+  { lock = k; ghost = g; trail = trail; state = toldAt p (turnedAt cpus p s'); run = tells p (turns p r y) (turned-over cpus p s' ask a age e); inv = i
+  ; before = s'; hidden = h; middle = toldAt p (turnedAt cpus p s'); ends = told; nows = λ q. same; waits = refl }
 
 -- what has to be shown of the new state: p has the lock then, or has just given it up
 pub record Steps (m : Mem) (g : Ghost) (trail : ℕ → List ℕ) (s : State) (c : Cpus) (p : ℕ) (held' : Bool) (m' : Mem) (g' : Ghost) (s' : State) (t : ℕ) (work : Work) (own : List ℕ) : Type 0 where

@@ -73,7 +73,7 @@ pub store-turn : {m : Mem} {g : Ghost} {trail : ℕ → List ℕ} {s : State} {t
     Inv m (lockOf p true) g trail s t c → Alike p s s' → Run cpus blocks es s' → T (young (s' .now' p)) → StoreOk m p g t' b w x g' →
     holdsIn ph ≡ true → length own ≡ 4096 → PhaseFacts (setVal b w x (view p m)) (hallOf m) g' own (s .table) (s' .now' p) j ph →
     ((q a : ℕ) → q < passedIn (m .cpus) ph .many → 1 ≤ cnt a (trail q) → 1 ≤ limbo g a → passedIn (m .cpus) ph .limit ≤ g .stamps a) →
-    Turn (counted (stored p b w x m)) t' (setCpu p (Updating j ph) own c) cpus blocks (Turned p ∷ es)
+    Turn (counted (stored p b w x m)) t' (setCpu p (Updating j ph) own c) cpus blocks (Turned p ∷ es) p s
 store-turn {m} {g} {trail} {s} {t} {c} {p} {s' = s'} {b = b} {w = w} {x = x} {g' = g'} {t' = t'} j ph own i a r y k h l f z = hold-turn i a r y (record
     { core = subst (λ rs. Core (counted (stored p b w x m)) p true g' rs t') (sym (a .table)) (core-stored (i .core) k)
     ; leaves = λ q. leaves-stored (trail q) q k

@@ -29,3 +29,5 @@ pub mod Rowing
 pub mod Taking
 pub mod BuildTurns
 pub mod PublishTurns
+pub mod Fencing
+pub mod RetireTurns

@@ -54,7 +54,7 @@ module _ {m : Mem} {g : Ghost} {trail : ℕ → List ℕ} {s : State} {t : ℕ} 
 
   -- The turn, whatever the state.
   pub build-turn : (st : Build) → c .work p ≡ Updating j (InBuild st) → (x : ℕ) (n : Mem) → Did p (buildAct st own) m x n →
-      Takes t c p (buildWords j st own x) (buildAfter j st own x) cpus blocks es n
+      Takes t c p s (buildWords j st own x) (buildAfter j st own x) cpus blocks es n
   unfolding BuildFacts
   build-turn Root e x n d =
       let f = facts Root e in let k = f .2 .has .row in
@@ -65,7 +65,7 @@ module _ {m : Mem} {g : Ghost} {trail : ℕ → List ℕ} {s : State} {t : ℕ} 
   build-turn (Read k d w b) e x n did =
       let f = facts (Read k d w b) e in
       let seen : x ≡ view p m b w = did .0 ∙ sym (view-open p m b w (open-block b w (f .2 .real))) in
-      subst (λ z. Takes t c p (buildWords j (Read k d w b) own z) (buildAfter j (Read k d w b) own z) cpus blocks es n) (sym seen)
+      subst (λ z. Takes t c p s (buildWords j (Read k d w b) own z) (buildAfter j (Read k d w b) own z) cpus blocks es n) (sym seen)
         (takes-load i r y n (readWords j d w b own (view p m b w)) (length-set _ _ _ ∙ length-set _ _ _ ∙ holder-room i) (buildAfter j (Read k d w b) own (view p m b w)) (did .1)
           (word-read (view p m) (hallOf m) g own (s .table) (s .now' p) j k d w b (f .0) (f .1) (holder-room i) (f .3) (staged-clean (view p m) g own (s .table) (s .now' p) j k (f .0) (f .1) .short) (f .4) (f .2)))
   build-turn (Edit k have) e x n d =

@@ -6,8 +6,9 @@ use Prim.Native.Nat.{ℕ}
 use Rattle.routes.specs.declared.update.job.Job.{Job}
 use Rattle.routes.specs.declared.update.build.Build.{Build}
 use Rattle.routes.specs.declared.update.publish.Publish.{Publish}
+use Rattle.routes.specs.declared.update.retire.Retire.{Retire}
 use Rattle.routes.specs.declared.update.Phase.{Phase}
-use Rattle.routes.specs.declared.update.Phase.the-variants.{Build as InBuild, Publish as InPublish}
+use Rattle.routes.specs.declared.update.Phase.the-variants.{Build as InBuild, Publish as InPublish, Retire as InRetire}
 use Rattle.routes.specs.declared.update.UpdateNext.{UpdateNext}
 use Rattle.routes.specs.declared.update.UpdateNext.the-variants.{On}
 use Rattle.routes.specs.Routes.{Route, Now}
@@ -35,6 +36,12 @@ module _ (v : ℕ → ℕ → ℕ) (hall : Hall) (g : Ghost) (o : List ℕ) (rs 
   pub on-publish : (j : Job) (s : Publish) → PhaseFacts v hall g o rs n j (InPublish s) → GoesOn v hall g o rs n (On j (InPublish s))
   unfolding holdsIn passedIn
   on-publish j s f = record { job = j; phase = InPublish s; is = refl; facts = f; holds' = refl; unpassed = λ cpus. refl }
+
+  -- To a state of Retire, by a test.
+  pub on-retire : (j : Job) (b : Bool) (x y : Retire) → PhaseFacts v hall g o rs n j (cond b (InRetire x) (InRetire y)) → GoesOn v hall g o rs n (On j (cond b (InRetire x) (InRetire y)))
+  unfolding holdsIn passedIn
+  on-retire j true x y f = record { job = j; phase = InRetire x; is = refl; facts = f; holds' = refl; unpassed = λ cpus. refl }
+  on-retire j false x y f = record { job = j; phase = InRetire y; is = refl; facts = f; holds' = refl; unpassed = λ cpus. refl }
 
   -- By a test.
   pub on-if : (b : Bool) (x y : UpdateNext) → (b ≡ true → GoesOn v hall g o rs n x) → (b ≡ false → GoesOn v hall g o rs n y) → GoesOn v hall g o rs n (cond b x y)

@@ -34,7 +34,7 @@ core-rowed m h locked g rs t r c k = record { sizes = c .sizes; others = c .othe
 pub rowed-turn : {m : Mem} {g : Ghost} {trail : ℕ → List ℕ} {s : State} {t : ℕ} {c : Cpus} {p cpus blocks : ℕ} {es : List Event} (r : Row) (j : Job) (ph : Phase) (own : List ℕ) →
     Inv m (lockOf p true) g trail s t c → Run cpus blocks es s → T (young (s .now' p)) → RowOk r m p (rowed r g) (view p m 0 2) →
     holdsIn ph ≡ true → passedIn (m .cpus) ph .many ≡ 0 → length own ≡ 4096 → PhaseFacts (view p m) (hallOf m) (rowed r g) own (s .table) (s .now' p) j ph →
-    Turn (counted m) t (setCpu p (Updating j ph) own c) cpus blocks (Turned p ∷ es)
+    Turn (counted m) t (setCpu p (Updating j ph) own c) cpus blocks (Turned p ∷ es) p s
 rowed-turn {m} {g} {trail} {s} {t} {c} {p} r j ph own i run y k h u l f = hold-turn i (alike-same p s) run y (record
     { core = core-counted (core-rowed m p true g (s .table) t r (i .core) k)
     ; leaves = λ q. record { epochs = omega arith; active = refl; words = λ b w a z. refl; safe = λ b a z. z; clear = λ b a z. inl (z, refl) }

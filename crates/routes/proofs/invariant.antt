@@ -19,6 +19,7 @@ pub mod Apart
 pub mod Arriving
 pub mod Calm
 pub mod Holding
+pub mod Local
 pub mod Moment
 pub mod Rely
 pub mod Ripening

@@ -35,7 +35,7 @@ use Rattle.routes.proofs.build.Writes.{write-there}
 use Rattle.routes.proofs.keys.Nibs.{nibs-length}
 use Rattle.routes.proofs.tree.Trees.{depth-few}
 use Rattle.routes.proofs.invariant.Staging.{need-few, staged-piece, staged-clean, staged-clean-in, staged-deep}
-use Rattle.routes.proofs.invariant.Touching.{MayAsk, used-touch, header-used}
+use Rattle.routes.proofs.invariant.Touching.{MayAsk, used-touch, header-touch}
 
 -- Fresh blocks that are needed are those got.
 pub equipped-fresh : (g : Ghost) (o : List ℕ) (rs : List Route) (n : Now) (j : Job) (ps : List Piece) (qs : List Route) → Equipped g o rs n j calm ps qs → g .fresh ≡ freshBlocks (wordsOf o) (j .need)
@@ -91,14 +91,14 @@ module _ (v : ℕ → ℕ → ℕ) (g : Ghost) (o : List ℕ) (rs : List Route) 
 module _ (m : Mem) (h : ℕ) (locked : Bool) (g : Ghost) (rs : List Route) (t : ℕ) (c : Core m h locked g rs t) (a : MayAsk m h) (o : List ℕ) (n : Now) (j : Job) where
   build-may : (s : Build) → BuildFacts (view h m) g o rs n j s → MayDo m h (buildAct s o)
   unfolding BuildFacts
-  build-may Root f = used-touch m h locked g rs t c 0 1 a (header-used m h locked g rs t c) (omega arith)
+  build-may Root f = header-touch c a 1 (omega arith)
   build-may (Read k d i b) f =
       let u = working-used (view h m) g o rs n j k (f .0) (f .1) b (read-there (wordsOf o) (f .0) (j .retired) (getD (f .1 .ps) k blank .bits) d i b (f .2)) in
-      used-touch m h locked g rs t c b i a (omega arith) (omega (arith, f .4))
+      used-touch c a b i (omega arith) (omega (arith, f .4))
   build-may (Edit k have) f = tt
   build-may (ToWrite k first d i) f =
       let u = writes-fresh (view h m) g o rs n j k first d i f in
-      rw (writes-block (view h m) g o rs n j k first d i f) (used-touch m h locked g rs t c (f .fresh d) i a (omega arith) (omega (arith, f .word)))
+      rw (writes-block (view h m) g o rs n j k first d i f) (used-touch c a (f .fresh d) i (omega arith) (omega (arith, f .word)))
 
   pub build-ready : length o ≡ 4096 → (s : Build) → BuildFacts (view h m) g o rs n j s → BuildReady m h j s o
   build-ready r s f = record { ok = build-ok (view h m) g o rs n j s f; room = r; may = build-may s f }

@@ -18,7 +18,7 @@ use Rattle.routes.proofs.late.Rows.{all-end}
 use Rattle.routes.proofs.late.Sees.{sees-untouched}
 use Rattle.routes.proofs.late.View.{view-open, view-none, open-low, open-block}
 use Rattle.routes.proofs.repr.Nodes.{repr-stays}
-use Rattle.routes.proofs.invariant.Touching.{real, used-once}
+use Rattle.routes.proofs.invariant.Apart.{solid as real, once as used-once}
 
 -- A row is what its kind says.
 pub row-of : (r : Row) (m : Mem) (h : ℕ) (g : Ghost) (e : ℕ) → g .row ≡ r → RowOk (g .row) m h g e → RowOk r m h g e
@@ -52,9 +52,9 @@ module _ (m : Mem) (h : ℕ) (locked : Bool) (g : Ghost) (rs : List Route) (t : 
   pub calm-repr : g .row ≡ calm → Repr (view h m) (g .tree)
   unfolding RowOk
   calm-repr e = repr-stays (m .val) (view h m) (g .tree) (λ b i u l.
-      (let ne : b ≡ 0 → ⊥ = real m h locked g rs t c b (omega arith) in
+      (let ne : b ≡ 0 → ⊥ = real c b (omega arith) in
        view-open h m b i (open-block b i ne)
-         ∙ sees-untouched (CalmStore (g .fresh) (view h m 0 2)) h b i m (λ x k. (let z = k .1 ne l in let o = used-once m h locked g rs t c b in omega arith)) (row-of calm m h g (view h m 0 2) e (c .row))))
+         ∙ sees-untouched (CalmStore (g .fresh) (view h m 0 2)) h b i m (λ x k. (let z = k .1 ne l in let o = used-once c b in omega arith)) (row-of calm m h g (view h m 0 2) e (c .row))))
       (c .repr)
 
   -- Where nothing is late a tree that the holder sees is there.

@@ -3,7 +3,7 @@ use mathlib.Core.Path.{_≡_, refl, sym, ap, subst, _∙_}
 use mathlib.Core.Bool.{true}
 use mathlib.Core.List.{List, [], _∷_}
 use mathlib.Core.Logic.{inl, inr}
-use Prim.Native.Nat.{ℕ, _+_, _<_, _≤_}
+use Prim.Native.Nat.{ℕ, suc, _+_, _<_, _≤_}
 use native.Mathlib.Omega.{arith}
 use lib.Dec.{T}
 use Rattle.own.specs.Layout.{wordsOf}
@@ -33,7 +33,7 @@ use Rattle.routes.specs.invariant.Writers.{Hall, PhaseFacts, hallOf}
 use Rattle.routes.proofs.late.Fence.{fence-empties}
 use Rattle.routes.proofs.invariant.Alike.{alike-same}
 use Rattle.routes.proofs.invariant.CalmRows.{row-of}
-use Rattle.routes.proofs.invariant.Fencing.{fence-turn}
+use Rattle.routes.proofs.invariant.Fencing.{fence-turn, turn-later}
 use Rattle.routes.proofs.invariant.Holding.{holder-facts, holder-room, load-turn}
 use Rattle.routes.proofs.invariant.Rowing.{rowed-turn}
 use Rattle.routes.proofs.invariant.Sights.{rowed}
@@ -97,9 +97,9 @@ module _ {m : Mem} {g : Ghost} {trail : ℕ → List ℕ} {s : State} {t : ℕ} 
 module _ {m : Mem} {g : Ghost} {trail : ℕ → List ℕ} {s : State} {t : ℕ} {c : Cpus} {p cpus blocks : ℕ} {es : List Event}
          (i : Inv m (lockOf p true) g trail s t c) (r : Run cpus blocks es s) (y : T (young (s .now' p))) (j : Job) where
   -- The turn, whatever the state.
-  pub publish-turn : (st : Publish) → c .work p ≡ Updating j (InPublish st) → (x : ℕ) (n : Mem) → Did p (publishAct j st) m x n → Takes t c p s (c .own p) (On j (publishAfter st x)) cpus blocks es n
+  pub publish-turn : (st : Publish) → c .work p ≡ Updating j (InPublish st) → (x : ℕ) (n : Mem) → Did p (publishAct j st) m x n → Takes (suc t) c p s (c .own p) (On j (publishAfter st x)) cpus blocks es n
   publish-turn FenceNodes e x n d = record { memory = counted (fenced p m); arrives = d .1; job = j; phase = InPublish SetRoot; is = refl;
-      turn = fence-turn i r y (λ g' s' i' r' y'. nodes-landed i' r' y' j e (fence-empties p m)) }
-  publish-turn SetRoot e x n d = record { memory = counted (stored p 0 1 (j .root) m); arrives = d .1; job = j; phase = InPublish FenceRoot; is = refl; turn = set-root i r y j e }
+      turn = fence-turn i r y (λ g' s' i' r' y'. turn-later (nodes-landed i' r' y' j e (fence-empties p m))) }
+  publish-turn SetRoot e x n d = record { memory = counted (stored p 0 1 (j .root) m); arrives = d .1; job = j; phase = InPublish FenceRoot; is = refl; turn = turn-later (set-root i r y j e) }
   publish-turn FenceRoot e x n d = record { memory = counted (fenced p m); arrives = d .1; job = j; phase = InRetire Epoch; is = refl;
-      turn = fence-turn i r y (λ g' s' i' r' y'. root-there i' r' y' j e (fence-empties p m)) }
+      turn = fence-turn i r y (λ g' s' i' r' y'. turn-later (root-there i' r' y' j e (fence-empties p m))) }

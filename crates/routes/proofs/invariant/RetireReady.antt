@@ -22,7 +22,8 @@ use Rattle.routes.specs.invariant.Memories.{Core}
 use Rattle.routes.specs.invariant.Retiring.{RetireFacts, replacedAt}
 use Rattle.routes.proofs.counts.Segments.{seg-in}
 use Rattle.routes.proofs.invariant.Joining.{last-of}
-use Rattle.routes.proofs.invariant.Touching.{MayAsk, used-touch, used-small, header-used}
+use Rattle.routes.proofs.invariant.Apart.{used-small}
+use Rattle.routes.proofs.invariant.Touching.{MayAsk, used-touch, header-touch}
 
 -- A replaced block is loose.
 pub replaced-loose : (g : Ghost) (o : List ℕ) (j : Job) (i : ℕ) → g .loose ≡ replacedBlocks o j → i < j .retired → 1 ≤ cnt (replacedAt o i) (g .loose)
@@ -31,7 +32,7 @@ replaced-loose g o j i e l = omega (arith, ap (cnt (replacedAt o i)) e, seg-in (
 module _ (m : Mem) (h : ℕ) (locked : Bool) (g : Ghost) (rs : List Route) (t : ℕ) (c : Core m h locked g rs t) (o : List ℕ) (n : Now) (j : Job) where
   -- It is read as it stands.
   pub replaced-in : (i : ℕ) → g .loose ≡ replacedBlocks o j → i < j .retired → retiredIn o i ≡ replacedAt o i
-  replaced-in i e l = child-same (replacedAt o i) (used-small m h locked g rs t c (replacedAt o i) (omega (arith, replaced-loose g o j i e l)))
+  replaced-in i e l = child-same (replacedAt o i) (used-small c (replacedAt o i) (omega (arith, replaced-loose g o j i e l)))
 
   -- Registers are in their ranges; the epoch too, as long as turns are.
   pub retire-ok : suc t < 2 ^ 64 → (s : Retire) → RetireFacts (view h m) g o n j s → RetireOk j s
@@ -49,20 +50,20 @@ module _ (m : Mem) (h : ℕ) (locked : Bool) (g : Ghost) (rs : List Route) (t : 
   -- What it asks may be asked.
   retire-may : MayAsk m h → (s : Retire) → RetireFacts (view h m) g o n j s → MayDo m h (retireAct j s o)
   unfolding RetireFacts
-  retire-may a Epoch f = used-touch m h locked g rs t c 0 2 a (header-used m h locked g rs t c) (omega arith)
-  retire-may a (SetEpoch e) f = used-touch m h locked g rs t c 0 2 a (header-used m h locked g rs t c) (omega arith)
+  retire-may a Epoch f = header-touch c a 2 (omega arith)
+  retire-may a (SetEpoch e) f = header-touch c a 2 (omega arith)
   retire-may a (SetAt i e) f =
       let l = f .retires .has .loose in
-      rw (replaced-in i l (f .here)) (used-touch m h locked g rs t c (replacedAt o i) 31 a (omega (arith, replaced-loose g o j i l (f .here))) (omega arith))
+      rw (replaced-in i l (f .here)) (used-touch c a (replacedAt o i) 31 (omega (arith, replaced-loose g o j i l (f .here))) (omega arith))
   retire-may a (SetNext i e) f =
       let l = f .0 .retires .has .loose in
-      rw (replaced-in i l (f .0 .here)) (used-touch m h locked g rs t c (replacedAt o i) 32 a (omega (arith, replaced-loose g o j i l (f .0 .here))) (omega arith))
-  retire-may a Tail f = used-touch m h locked g rs t c 0 4 a (header-used m h locked g rs t c) (omega arith)
-  retire-may a SetHead f = used-touch m h locked g rs t c 0 3 a (header-used m h locked g rs t c) (omega arith)
+      rw (replaced-in i l (f .0 .here)) (used-touch c a (replacedAt o i) 32 (omega (arith, replaced-loose g o j i l (f .0 .here))) (omega arith))
+  retire-may a Tail f = header-touch c a 4 (omega arith)
+  retire-may a SetHead f = header-touch c a 3 (omega arith)
   retire-may a (Link b) f =
       let u = last-of (g .chain) (λ z. f .2 (f .1 ∙ z)) in
-      used-touch m h locked g rs t c b 32 a (omega (arith, ap (λ z. cnt z (g .chain)) (f .1))) (omega arith)
-  retire-may a SetTail f = used-touch m h locked g rs t c 0 4 a (header-used m h locked g rs t c) (omega arith)
+      used-touch c a b 32 (omega (arith, ap (λ z. cnt z (g .chain)) (f .1))) (omega arith)
+  retire-may a SetTail f = header-touch c a 4 (omega arith)
   retire-may a Fence f = (a .once, a .turn, a .inside)
 
   pub retire-ready : suc t < 2 ^ 64 → MayAsk m h → length o ≡ 4096 → (s : Retire) → RetireFacts (view h m) g o n j s → RetireReady m h j s o

@@ -44,7 +44,7 @@ use Rattle.routes.proofs.invariant.Sights.{rowed, joined, mended}
 use Rattle.routes.proofs.invariant.Steps.{lockOf, setCpu, Turn}
 use Rattle.routes.proofs.invariant.StoreKinds.{loose-store, epoch-store, head-store, link-store, tail-store}
 use Rattle.routes.proofs.invariant.Taking.{Takes, takes-load, takes-store, takes-later}
-use Rattle.routes.proofs.invariant.Touching.{real, used-once, used-small}
+use Rattle.routes.proofs.invariant.Apart.{solid as real, once as used-once, used-small}
 
 -- Nothing is late at the fence: the scan begins.
 limbo-fenced : {m : Mem} {g : Ghost} {trail : ℕ → List ℕ} {s : State} {t : ℕ} {c : Cpus} {p cpus blocks : ℕ} {es : List Event} → Inv m (lockOf p true) g trail s t c → Run cpus blocks es s → T (young (s .now' p)) → (j : Job) →
@@ -68,10 +68,10 @@ module _ {m : Mem} {g : Ghost} {trail : ℕ → List ℕ} {s : State} {t : ℕ} 
 
   -- What is loose is no header, and once.
   solid : (b : ℕ) → 1 ≤ cnt b (g .loose) → b ≡ 0 → ⊥
-  solid b l = real m p true g (s .table) t (i .core) b (omega arith)
+  solid b l = real (i .core) b (omega arith)
 
   once : (b : ℕ) → cnt b (g .loose) ≤ 1
-  once b = omega (arith, used-once m p true g (s .table) t (i .core) b)
+  once b = omega (arith, used-once (i .core) b)
 
   -- A block that was replaced is read as it stands.
   reads : (k : ℕ) → g .loose ≡ replacedBlocks own j → k < j .retired → retiredIn own k ≡ replacedAt own k
@@ -89,7 +89,7 @@ module _ {m : Mem} {g : Ghost} {trail : ℕ → List ℕ} {s : State} {t : ℕ} 
   last-small : lastFrom 0 (g .chain) < 2 ^ 20
   last-small = elim (cases-eq (lastFrom 0 (g .chain)) 0) [
         inl z ↦ omega arith
-      | inr z ↦ (let u = last-of (g .chain) z in used-small m p true g (s .table) t (i .core) (lastFrom 0 (g .chain)) (omega arith)) ]
+      | inr z ↦ (let u = last-of (g .chain) z in used-small (i .core) (lastFrom 0 (g .chain)) (omega arith)) ]
 
   -- LIMBO_TAIL is the last of limbo.
   tail-is : Joins v g own (s .now' p) j → childOf (sees p 0 4 m) ≡ lastFrom 0 (g .chain)

@@ -23,7 +23,7 @@ use Rattle.routes.proofs.late.View.{open-block}
 use Rattle.routes.proofs.invariant.CalmRows.{row-of, calm-more, still-repr}
 use Rattle.routes.proofs.invariant.Sights.{rowed, joined, mended, header-stays, sight-apart, sight-root, sight-epoch, sight-tail, sight-head, sight-link}
 use Rattle.routes.proofs.invariant.Storing.{StoreOk}
-use Rattle.routes.proofs.invariant.Touching.{real, used-once}
+use Rattle.routes.proofs.invariant.Apart.{solid as real, once as used-once}
 
 -- What is seen now may be said for a later turn.
 sight-later : (v : ℕ → ℕ → ℕ) (g : Ghost) (e t : ℕ) → Sight v g e t → Sight v g e (suc t)
@@ -32,12 +32,12 @@ sight-later v g e t s = record { ahead = s .ahead; early = omega (arith, s .earl
 module _ (m : Mem) (h : ℕ) (locked : Bool) (g : Ghost) (rs : List Route) (t : ℕ) (c : Core m h locked g rs t) where
   -- The header is not retired.
   solid : (b : ℕ) → 1 ≤ cnt b (g .chain) → b ≡ 0 → ⊥
-  solid b l = real m h locked g rs t c b (omega arith)
+  solid b l = real c b (omega arith)
 
   -- To a fresh block.
   pub fresh-store : (b w x : ℕ) → g .row ≡ calm → 1 ≤ cnt b (g .fresh) → StoreOk m h g t b w x g
   fresh-store b w x r f =
-      let ne : b ≡ 0 → ⊥ = real m h locked g rs t c b (omega arith) in let one = used-once m h locked g rs t c b in
+      let ne : b ≡ 0 → ⊥ = real c b (omega arith) in let one = used-once c b in
       record { open' = open-block b w ne; tree = refl; stamps = refl; limbos = λ a. refl; freshs = λ a. refl;
         row = calm-more m h g g b w x (row-of calm m h g (view h m 0 2) r (c .row)) r refl (header-stays b w x (view h m) 2 ne) ((λ z. absurd (ne z)), (λ z l. f));
         sight = sight-apart (view h m) g (m .val 0 2) t (c .sight) b w x ne (omega arith) }
@@ -45,7 +45,7 @@ module _ (m : Mem) (h : ℕ) (locked : Bool) (g : Ghost) (rs : List Route) (t : 
   -- To RETIRED_AT or NEXT_RETIRED of a block that is loose.
   pub loose-store : (b w x : ℕ) → g .row ≡ calm → 1 ≤ cnt b (g .loose) → 31 ≤ w → StoreOk m h g t b w x g
   loose-store b w x r f hw =
-      let ne : b ≡ 0 → ⊥ = real m h locked g rs t c b (omega arith) in let one = used-once m h locked g rs t c b in
+      let ne : b ≡ 0 → ⊥ = real c b (omega arith) in let one = used-once c b in
       record { open' = open-block b w ne; tree = refl; stamps = refl; limbos = λ a. refl; freshs = λ a. refl;
         row = calm-more m h g g b w x (row-of calm m h g (view h m 0 2) r (c .row)) r refl (header-stays b w x (view h m) 2 ne) ((λ z. absurd (ne z)), (λ z l. absurd (omega arith)));
         sight = sight-apart (view h m) g (m .val 0 2) t (c .sight) b w x ne (omega arith) }
@@ -65,7 +65,7 @@ module _ (m : Mem) (h : ℕ) (locked : Bool) (g : Ghost) (rs : List Route) (t : 
       fresh : (a : ℕ) → cnt a (g .fresh) ≡ cnt a (gotBlocks o j)
       fresh a = ap (cnt a) (f .equipped .has .fresh)
       ne : (a : ℕ) → 1 ≤ count a (f .W) → a ≡ 0 → ⊥
-      ne a l = real m h locked g rs t c a (omega (arith, b .balance a, fresh a))
+      ne a l = real c a (omega (arith, b .balance a, fresh a))
 
   -- To EPOCH, once nothing is late: it is one more.
   pub epoch-store : (e : ℕ) → g .row ≡ still → view h m 0 2 ≡ e → StoreOk m h g (suc t) 0 2 (e + 1) (rowed calm g)
@@ -89,13 +89,13 @@ module _ (m : Mem) (h : ℕ) (locked : Bool) (g : Ghost) (rs : List Route) (t : 
     pub head-store : g .chain ≡ [] → StoreOk m h g t 0 3 x (joined g)
     head-store none = record { open' = refl; tree = refl; stamps = refl; limbos = joined-limbo; freshs = λ a. refl;
         row = calm-more m h g (joined g) 0 3 x (row-of calm m h g (view h m 0 2) r (c .row)) r refl refl ((λ z. (omega arith, omega arith, λ k. absurd (omega arith))), (λ z. absurd (z refl)));
-        sight = sight-head (view h m) g (m .val 0 2) t (c .sight) solid x (λ b. omega (arith, used-once m h locked g rs t c b)) (λ b l. real m h locked g rs t c b (omega arith)) links marks none }
+        sight = sight-head (view h m) g (m .val 0 2) t (c .sight) solid x (λ b. omega (arith, used-once c b)) (λ b l. real c b (omega arith)) links marks none }
 
     -- To NEXT_RETIRED of the last node of limbo.
     pub link-store : (b : ℕ) → (b ≡ 0 → ⊥) → b ≡ lastFrom 0 (g .chain) → StoreOk m h g t b 32 x (joined g)
     link-store b ne last = record { open' = open-block b 32 ne; tree = refl; stamps = refl; limbos = joined-limbo; freshs = λ a. refl;
         row = calm-more m h g (joined g) b 32 x (row-of calm m h g (view h m 0 2) r (c .row)) r refl (header-stays b 32 x (view h m) 2 ne) ((λ z. absurd (ne z)), (λ z l. absurd (omega arith)));
-        sight = sight-link (view h m) g (m .val 0 2) t (c .sight) solid x (λ b. omega (arith, used-once m h locked g rs t c b)) (λ b l. real m h locked g rs t c b (omega arith)) links marks b ne last }
+        sight = sight-link (view h m) g (m .val 0 2) t (c .sight) solid x (λ b. omega (arith, used-once c b)) (λ b l. real c b (omega arith)) links marks b ne last }
 
   -- To LIMBO_TAIL: the last node of limbo.
   pub tail-store : (x : ℕ) → g .row ≡ calm → x ≡ lastFrom 0 (g .chain) → StoreOk m h g t 0 4 x (mended g)

@@ -1,7 +1,7 @@
 -- Build: the images on the way of a piece are edited.
 use mathlib.Core.Path.{_≡_, refl, ap, sym, subst, _∙_}
 use mathlib.Core.List.{List, [], _∷_}
-use mathlib.Core.Logic.{_⊎_, inl, inr}
+use mathlib.Core.Logic.{inl, inr}
 use Prim.Native.Nat.{ℕ, suc, _+_, _/_, _%_, _^_, _<_, _≤_}
 use native.Mathlib.Nat.{add-zero}
 use native.Mathlib.Omega.{arith}
@@ -9,14 +9,13 @@ use lib.ListN.{length, drop, getD}
 use Rattle.words.proofs.Addresses.{place-small}
 use Rattle.words.proofs.Packing.{child-same}
 use Rattle.own.specs.declared.piece.PieceWords.{PieceWords}
-use Rattle.own.specs.Layout.{wordsOf, freshAt, retiredAt}
+use Rattle.own.specs.Layout.{wordsOf, freshAt}
 use Rattle.own.specs.Edits.{edited, levelsEdited, deepOf, bitsOf}
 use Rattle.own.specs.Functions.{blankedIn}
 use Rattle.own.proofs.Edited.{words-edited, levels-edited, edited-outside}
 use Rattle.routes.specs.declared.Piece.{Piece}
 use Rattle.routes.specs.declared.update.job.Job.{Job}
 use Rattle.routes.specs.declared.update.build.Build.the-variants.{Edit, Write as ToWrite}
-use Rattle.routes.specs.declared.update.Phase.the-variants.{Build as InBuild}
 use Rattle.routes.specs.Routes.{Route, Now}
 use Rattle.routes.specs.machine.Begins.{blank, stored}
 use Rattle.routes.specs.machine.Builds.{buildAfter}
@@ -30,7 +29,7 @@ use Rattle.routes.specs.keys.Keys.{nibs, wayOf}
 use Rattle.routes.specs.repr.Images.{Own, levelsLeft}
 use Rattle.routes.specs.tree.Edits.{RouteEdit, edit, editOf}
 use Rattle.routes.specs.tree.Trees.{Tree, depth, there}
-use Rattle.routes.specs.invariant.Building.{Equipped, Staged, Writes, BuildFacts}
+use Rattle.routes.specs.invariant.Building.{Equipped, Staged, BuildFacts}
 use Rattle.routes.specs.invariant.Ghosts.{Ghost, calm}
 use Rattle.routes.specs.invariant.Writers.{Hall, PhaseFacts}
 use Rattle.routes.proofs.build.Loops.{edit-piece, levels-piece, words-edit}

@@ -1,5 +1,5 @@
 -- Build: a word of a node on the way is read into its image.
-use mathlib.Core.Path.{_≡_, refl, ap, sym, subst, _∙_}
+use mathlib.Core.Path.{_≡_, ap, sym, subst, _∙_}
 use mathlib.Core.Bool.{true, false, _||_}
 use mathlib.Core.List.{List}
 use mathlib.Core.Logic.{_⊎_, inl, inr}
@@ -7,8 +7,8 @@ use Prim.Native.Nat.{ℕ, suc, _+_, _/_, _<_, _≤_}
 use native.Mathlib.Omega.{arith}
 use lib.Dec.{eqb, ltb}
 use lib.ListN.{length, drop, getD, length-set}
-use Rattle.std.proofs.shelf.Ways.{tells, eqb-tells}
-use Rattle.std.proofs.shelf.Tests.{cases-eq, ltb-true, ltb-false, eqb-true, eqb-false, or-parts}
+use Rattle.std.proofs.shelf.Ways.{eqb-tells}
+use Rattle.std.proofs.shelf.Tests.{ltb-true, ltb-false, eqb-true, eqb-false, or-parts}
 use Rattle.words.specs.Address.{nib}
 use Rattle.own.specs.Layout.{wordsOf, imageAt, freshAt, retiredAt, put}
 use Rattle.own.specs.Images.{noted, taken}
@@ -16,13 +16,11 @@ use Rattle.own.proofs.Words.{words-set, words-then, put-hit, put-miss}
 use Rattle.routes.specs.declared.Piece.{Piece}
 use Rattle.routes.specs.declared.update.job.Job.{Job}
 use Rattle.routes.specs.declared.update.build.Build.the-variants.{Read, Edit}
-use Rattle.routes.specs.declared.update.Phase.the-variants.{Build as InBuild}
 use Rattle.routes.specs.Routes.{Route, Now}
 use Rattle.routes.specs.machine.Begins.{blank}
-use Rattle.routes.specs.machine.Builds.{afterRead, buildAfter, readWords, deepIn, childIn}
+use Rattle.routes.specs.machine.Builds.{buildAfter, readWords, deepIn, childIn}
 use Rattle.routes.specs.machine.Checks.{pieceIn}
 use Rattle.routes.specs.build.Reads.{Reading, Have}
-use Rattle.routes.specs.repr.Repr.{Repr}
 use Rattle.routes.specs.tree.Trees.{Tree, blockOf}
 use Rattle.routes.specs.tree.Walks.{down}
 use Rattle.routes.specs.invariant.Building.{Staged, BuildFacts}

@@ -1,7 +1,7 @@
 -- The facts of Build let its turns be taken.
 use mathlib.Core.Path.{_≡_, ap, sym, subst, _∙_}
 use mathlib.Core.Bool.{Bool}
-use mathlib.Core.List.{List, _∷_}
+use mathlib.Core.List.{List}
 use Prim.Native.Nat.{ℕ, suc, _+_, _/_, _<_, _≤_}
 use native.Mathlib.Omega.{arith}
 use lib.ListN.{length, drop, getD}
@@ -17,9 +17,8 @@ use Rattle.routes.specs.machine.Acts.{MayDo}
 use Rattle.routes.specs.machine.Begins.{blank}
 use Rattle.routes.specs.machine.Builds.{BuildOk, BuildReady, buildAct}
 use Rattle.routes.specs.machine.Obtains.{freshIn}
-use Rattle.routes.specs.build.Reads.{Reading}
 use Rattle.routes.specs.build.Stages.{wants, treeAfter}
-use Rattle.routes.specs.build.Writes.{Held, freshBlocks}
+use Rattle.routes.specs.build.Writes.{freshBlocks}
 use Rattle.routes.specs.counts.Counts.{cnt}
 use Rattle.routes.specs.keys.Keys.{wayOf}
 use Rattle.routes.specs.late.View.{view}
@@ -27,14 +26,13 @@ use Rattle.routes.specs.tree.Edits.{editOf}
 use Rattle.routes.specs.tree.Trees.{Tree, count, depth}
 use Rattle.routes.specs.invariant.Building.{Equipped, Staged, Writes, BuildFacts}
 use Rattle.routes.specs.invariant.Ghosts.{Ghost, calm}
-use Rattle.routes.specs.invariant.Holders.{gotBlocks}
 use Rattle.routes.specs.invariant.Memories.{Core}
 use Rattle.routes.proofs.build.Reads.{read-there}
 use Rattle.routes.proofs.build.Stages.{stage-clean}
 use Rattle.routes.proofs.build.Writes.{write-there}
 use Rattle.routes.proofs.keys.Nibs.{nibs-length}
 use Rattle.routes.proofs.tree.Trees.{depth-few}
-use Rattle.routes.proofs.invariant.Staging.{need-few, staged-piece, staged-clean, staged-clean-in, staged-deep}
+use Rattle.routes.proofs.invariant.Staging.{need-few, staged-piece, staged-clean-in, staged-deep}
 use Rattle.routes.proofs.invariant.Touching.{MayAsk, used-touch, header-touch}
 
 -- Fresh blocks that are needed are those got.

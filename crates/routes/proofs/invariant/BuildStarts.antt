@@ -2,10 +2,10 @@
 use mathlib.Core.Path.{_≡_, ap, sym, subst, _∙_}
 use mathlib.Core.List.{List, [], _∷_, List·Memᴰ, List·Memᴰ·cases-cons, List·Memᴰ·not-nil}
 use mathlib.Core.Logic.{inl, inr}
-use Prim.Native.Nat.{ℕ, zero, suc, _+_, _/_, _^_, _<_, _≤_}
+use Prim.Native.Nat.{ℕ, suc, _+_, _/_, _^_, _<_, _≤_}
 use native.Mathlib.Omega.{arith}
 use lib.Dec.{eqb}
-use lib.ListN.{length, drop, getD}
+use lib.ListN.{length, getD}
 use Rattle.std.proofs.shelf.Ways.{tells}
 use Rattle.std.proofs.shelf.Tests.{eqb-true, eqb-false}
 use Rattle.words.specs.Slots.{childOf}
@@ -13,8 +13,6 @@ use Rattle.own.specs.Layout.{wordsOf}
 use Rattle.routes.specs.declared.Piece.{Piece}
 use Rattle.routes.specs.declared.update.job.Job.{Job}
 use Rattle.routes.specs.declared.update.build.Build.the-variants.{Read, Edit}
-use Rattle.routes.specs.declared.update.Phase.the-variants.{Build as InBuild}
-use Rattle.routes.specs.declared.update.UpdateNext.the-variants.{On}
 use Rattle.routes.specs.Routes.{Route, Now}
 use Rattle.routes.specs.machine.Begins.{blank}
 use Rattle.routes.specs.machine.Builds.{starting}

@@ -2,10 +2,10 @@
 use mathlib.Core.Path.{_≡_, sym, ap, subst, _∙_}
 use mathlib.Core.Bool.{true}
 use mathlib.Core.List.{List}
-use Prim.Native.Nat.{ℕ, suc, _+_, _/_, _^_, _<_, _≤_}
+use Prim.Native.Nat.{ℕ, suc}
 use native.Mathlib.Omega.{arith}
 use lib.Dec.{T}
-use lib.ListN.{length, getD, length-set}
+use lib.ListN.{length-set}
 use Rattle.words.specs.Slots.{childOf}
 use Rattle.words.proofs.Packing.{child-same}
 use Rattle.own.specs.Layout.{wordsOf}
@@ -16,14 +16,13 @@ use Rattle.routes.specs.declared.update.build.Build.{Build}
 use Rattle.routes.specs.declared.update.build.Build.the-variants.{Root, Read, Edit, Write as ToWrite}
 use Rattle.routes.specs.declared.update.Phase.the-variants.{Build as InBuild}
 use Rattle.routes.specs.declared.work.Work.the-variants.{Update as Updating}
-use Rattle.routes.specs.Memory.{Mem, Arrives, rest, stored, counted, sees}
+use Rattle.routes.specs.Memory.{Mem, Arrives, rest, stored, counted}
 use Rattle.routes.specs.Routes.{Event, State, Run, young}
 use Rattle.routes.specs.machine.Acts.{Did}
 use Rattle.routes.specs.machine.Builds.{buildAct, buildAfter, buildWords, readWords}
-use Rattle.routes.specs.machine.Obtains.{freshIn}
 use Rattle.routes.specs.late.View.{view}
 use Rattle.routes.specs.tree.Trees.{blockOf}
-use Rattle.routes.specs.invariant.Building.{BuildFacts, Writes}
+use Rattle.routes.specs.invariant.Building.{BuildFacts}
 use Rattle.routes.specs.invariant.Ghosts.{Ghost}
 use Rattle.routes.specs.invariant.Inv.{Cpus, Inv}
 use Rattle.routes.specs.invariant.Writers.{PhaseFacts, hallOf}

@@ -1,24 +1,23 @@
 -- Build: a word of an image is written to the fresh block of its level.
-use mathlib.Core.Path.{_≡_, refl, ap, sym, subst, _∙_}
+use mathlib.Core.Path.{_≡_, sym, subst}
 use mathlib.Core.Bool.{true, false}
-use mathlib.Core.List.{List, [], _∷_}
-use Prim.Native.Nat.{ℕ, suc, _+_, _/_, _<_, _≤_}
+use mathlib.Core.List.{List}
+use Prim.Native.Nat.{ℕ, suc, _+_, _<_, _≤_}
 use native.Mathlib.Omega.{arith}
 use lib.Dec.{ltb}
-use lib.ListN.{length, drop, getD, drop-of-length-le}
+use lib.ListN.{length, drop, drop-of-length-le}
 use Rattle.std.proofs.shelf.Tests.{ltb-true, ltb-false}
 use Rattle.own.specs.Layout.{wordsOf}
 use Rattle.own.specs.Images.{imageWord}
-use Rattle.routes.specs.declared.Piece.{Piece}
 use Rattle.routes.specs.declared.update.job.Job.{Job}
 use Rattle.routes.specs.declared.update.build.Build.the-variants.{Write as ToWrite}
 use Rattle.routes.specs.declared.update.publish.Publish.the-variants.{FenceNodes}
-use Rattle.routes.specs.declared.update.Phase.the-variants.{Build as InBuild, Publish as InPublish}
+use Rattle.routes.specs.declared.update.Phase.the-variants.{Publish as InPublish}
 use Rattle.routes.specs.declared.update.UpdateNext.the-variants.{On}
 use Rattle.routes.specs.Memory.{setVal}
 use Rattle.routes.specs.Routes.{Route, Now}
 use Rattle.routes.specs.machine.Builds.{afterWrite, starting}
-use Rattle.routes.specs.build.Stages.{Stage, wants, treeAfter}
+use Rattle.routes.specs.build.Stages.{Stage, treeAfter}
 use Rattle.routes.specs.build.Writes.{Write}
 use Rattle.routes.specs.keys.Keys.{wayOf}
 use Rattle.routes.specs.tree.Edits.{editOf}

@@ -1,17 +1,15 @@
 -- Late rows of the holder: what a calm one hides, and how rows grow.
-use mathlib.Core.Path.{_≡_, refl, sym, ap, subst, _∙_}
-use mathlib.Core.Bool.{Bool, true, false}
-use mathlib.Core.List.{List, [], _∷_, _++_}
-use Prim.Native.Nat.{ℕ, suc, _+_, _<_, _≤_}
+use mathlib.Core.Path.{_≡_, refl, sym, subst, _∙_}
+use mathlib.Core.Bool.{Bool, false}
+use mathlib.Core.List.{List, []}
+use Prim.Native.Nat.{ℕ, _≤_}
 use native.Mathlib.Omega.{arith}
 use Rattle.routes.specs.Memory.{Mem, setVal, stored, counted}
 use Rattle.routes.specs.Routes.{Route}
-use Rattle.routes.specs.counts.Counts.{cnt}
-use Rattle.routes.specs.late.Rows.{AllRow, storeOf}
 use Rattle.routes.specs.late.View.{masked, view}
 use Rattle.routes.specs.repr.Repr.{Repr}
 use Rattle.routes.specs.tree.Trees.{Tree, blockOf, count}
-use Rattle.routes.specs.invariant.Ghosts.{Ghost, Row, still, heads, calm}
+use Rattle.routes.specs.invariant.Ghosts.{Ghost, Row, calm}
 use Rattle.routes.specs.invariant.Memories.{CalmStore, RowOk, Core}
 use Rattle.routes.proofs.late.Only.{row-stored}
 use Rattle.routes.proofs.late.Rows.{all-end}

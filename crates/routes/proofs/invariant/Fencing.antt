@@ -1,5 +1,5 @@
 -- A fence of the holder is arriving, and then a turn with nothing late.
-use mathlib.Core.Path.{_≡_, refl, ap, _∙_}
+use mathlib.Core.Path.{refl, ap, _∙_}
 use mathlib.Core.Bool.{true}
 use mathlib.Core.List.{List, _∷_}
 use Prim.Native.Nat.{ℕ, suc}
@@ -7,7 +7,7 @@ use native.Mathlib.Omega.{arith}
 use lib.Dec.{T}
 use Rattle.routes.specs.Memory.{Mem, fenced, counted}
 use Rattle.routes.specs.Routes.{Now, Event, Turned, State, Run, young, isQuestion, limit}
-use Rattle.routes.specs.run.Nows.{ageOf, limitOf, isChange}
+use Rattle.routes.specs.run.Nows.{limitOf, isChange}
 use Rattle.routes.specs.invariant.Ghosts.{Ghost}
 use Rattle.routes.specs.invariant.Inv.{Lock, Cpus, Inv}
 use Rattle.routes.proofs.late.Fence.{fence-arrives}

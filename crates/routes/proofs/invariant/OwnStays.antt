@@ -1,8 +1,8 @@
 -- What an update in hand rests on among the own words, and that other own words do not matter.
-use mathlib.Core.Path.{_≡_, ap, sym, _∙_}
+use mathlib.Core.Path.{_≡_, sym, _∙_}
 use mathlib.Core.List.{List}
 use mathlib.Core.Logic.{_⊎_, inl, inr}
-use Prim.Native.Nat.{ℕ, suc, _+_, _<_, _≤_}
+use Prim.Native.Nat.{ℕ, _+_, _<_, _≤_}
 use native.Mathlib.Omega.{arith}
 use Rattle.own.specs.Layout.{wordsOf, pieceAt, freshAt, retiredAt}
 use Rattle.own.specs.Pieces.{pieceOf}

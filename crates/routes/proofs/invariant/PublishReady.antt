@@ -14,7 +14,7 @@ use Rattle.routes.specs.machine.Acts.{MayDo, PhaseReady}
 use Rattle.routes.specs.machine.Publishes.{publishAct}
 use Rattle.routes.specs.invariant.Ghosts.{Ghost}
 use Rattle.routes.specs.invariant.Memories.{Core}
-use Rattle.routes.proofs.invariant.Touching.{MayAsk, used-touch, header-touch}
+use Rattle.routes.proofs.invariant.Touching.{MayAsk, header-touch}
 
 -- Each is a fence, or a store to the header.
 publish-may : (m : Mem) (h : ℕ) (locked : Bool) (g : Ghost) (rs : List Route) (t : ℕ) → Core m h locked g rs t → MayAsk m h → (j : Job) (s : Publish) → MayDo m h (publishAct j s)

@@ -1,12 +1,11 @@
 -- Every turn of Publish keeps the invariant.
-use mathlib.Core.Path.{_≡_, refl, sym, ap, subst, _∙_}
+use mathlib.Core.Path.{_≡_, refl}
 use mathlib.Core.Bool.{true}
 use mathlib.Core.List.{List, [], _∷_}
 use mathlib.Core.Logic.{inl, inr}
-use Prim.Native.Nat.{ℕ, suc, _+_, _<_, _≤_}
+use Prim.Native.Nat.{ℕ, suc}
 use native.Mathlib.Omega.{arith}
 use lib.Dec.{T}
-use Rattle.own.specs.Layout.{wordsOf}
 use Rattle.routes.specs.declared.update.job.Job.{Job}
 use Rattle.routes.specs.declared.update.publish.Publish.{Publish}
 use Rattle.routes.specs.declared.update.publish.Publish.the-variants.{FenceNodes, SetRoot, FenceRoot}
@@ -18,12 +17,9 @@ use Rattle.routes.specs.Memory.{Mem, counted, fenced, stored, setVal}
 use Rattle.routes.specs.Routes.{Route, Now, Event, Turned, State, Run, young}
 use Rattle.routes.specs.machine.Acts.{Did}
 use Rattle.routes.specs.machine.Publishes.{publishAct, publishAfter}
-use Rattle.routes.specs.counts.Counts.{cnt}
-use Rattle.routes.specs.late.Rows.{storeOf}
 use Rattle.routes.specs.late.View.{view}
-use Rattle.routes.specs.tree.Trees.{blockOf}
-use Rattle.routes.specs.invariant.Building.{Published, Ripens, Landed, PublishFacts}
-use Rattle.routes.specs.invariant.Ghosts.{Ghost, Row, still, calm, ripe}
+use Rattle.routes.specs.invariant.Building.{Published, Landed, PublishFacts}
+use Rattle.routes.specs.invariant.Ghosts.{Ghost, still, calm, ripe}
 use Rattle.routes.specs.invariant.Holders.{replacedBlocks, restBlocks}
 use Rattle.routes.specs.invariant.Inv.{Cpus, Inv}
 use Rattle.routes.specs.invariant.Memories.{RowOk}

@@ -1,27 +1,25 @@
 -- Retire: the facts of what comes next, of what the holder sees after each turn.
 use mathlib.Core.Path.{_≡_, refl, sym, ap, subst, _∙_}
-use mathlib.Core.Bool.{Bool, true, false, cond}
-use mathlib.Core.List.{List, [], _∷_, _++_}
+use mathlib.Core.Bool.{cond}
+use mathlib.Core.List.{List, [], _++_}
 use mathlib.Core.Logic.{inl, inr}
 use Prim.Native.Nat.{ℕ, suc, _+_, _-_, _<_, _≤_}
 use native.Mathlib.Omega.{arith}
 use lib.Dec.{eqb, ltb}
-use Rattle.std.proofs.shelf.Ways.{eqb-tells}
-use Rattle.std.proofs.shelf.Tests.{cases-lt, cases-eq, lt-ltb, le-ltb, ltb-true, ltb-false, eqb-true, eqb-false}
-use Rattle.words.specs.Slots.{childOf}
+use Rattle.std.proofs.shelf.Tests.{cases-eq, lt-ltb, le-ltb, ltb-true, ltb-false, eqb-true, eqb-false}
 use Rattle.own.specs.Layout.{wordsOf, retiredAt}
 use Rattle.routes.specs.declared.update.job.Job.{Job}
-use Rattle.routes.specs.declared.update.retire.Retire.the-variants.{Epoch, SetEpoch, SetAt, SetNext, Tail, SetHead as ToHead, Link, SetTail as ToTail, Fence}
+use Rattle.routes.specs.declared.update.retire.Retire.the-variants.{Epoch, SetEpoch, SetNext, SetTail as ToTail, Fence}
 use Rattle.routes.specs.declared.update.scan.Scan.the-variants.{ForLimit}
 use Rattle.routes.specs.declared.update.Phase.the-variants.{Retire as InRetire, Scan as InScan}
 use Rattle.routes.specs.Memory.{setVal}
 use Rattle.routes.specs.Routes.{Route, Now}
-use Rattle.routes.specs.machine.Retires.{retiredIn, followerIn, afterEpoch, afterNext, afterTail}
+use Rattle.routes.specs.machine.Retires.{afterEpoch, afterNext, afterTail}
 use Rattle.routes.specs.counts.Counts.{cnt, seg}
 use Rattle.routes.specs.invariant.Ghosts.{Ghost, Row, still, calm, heads}
-use Rattle.routes.specs.invariant.Holders.{Has, replacedBlocks}
+use Rattle.routes.specs.invariant.Holders.{replacedBlocks}
 use Rattle.routes.specs.invariant.Memories.{Chain, lastFrom}
-use Rattle.routes.specs.invariant.Retiring.{Retires, Stamps, Joins, LinkedTo, StampedIn, RetireFacts, replacedAt}
+use Rattle.routes.specs.invariant.Retiring.{Retires, Stamps, Joins, LinkedTo, RetireFacts, replacedAt}
 use Rattle.routes.specs.invariant.Writers.{Hall, PhaseFacts, ScanFacts}
 use Rattle.routes.proofs.basics.Places.{setVal-hit, setVal-miss}
 use Rattle.routes.proofs.counts.Segments.{seg-apart, seg-find}

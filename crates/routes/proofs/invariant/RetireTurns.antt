@@ -1,6 +1,6 @@
 -- Every turn of Retire keeps the invariant.
 use mathlib.Core.Path.{_≡_, refl, sym, ap, subst, _∙_}
-use mathlib.Core.Bool.{Bool, true, false, cond}
+use mathlib.Core.Bool.{true, cond}
 use mathlib.Core.List.{List, [], _∷_}
 use mathlib.Core.Logic.{inl, inr}
 use Prim.Native.Nat.{ℕ, suc, _+_, _-_, _^_, _<_, _≤_}
@@ -9,7 +9,6 @@ use lib.Dec.{T, eqb, ltb}
 use Rattle.std.proofs.shelf.Tests.{cases-lt, cases-eq, lt-ltb, le-ltb}
 use Rattle.words.specs.Slots.{childOf}
 use Rattle.words.proofs.Packing.{child-same}
-use Rattle.own.specs.Layout.{wordsOf}
 use Rattle.routes.specs.declared.update.job.Job.{Job}
 use Rattle.routes.specs.declared.update.retire.Retire.{Retire}
 use Rattle.routes.specs.declared.update.retire.Retire.the-variants.{Epoch, SetEpoch, SetAt, SetNext, Tail, SetHead as ToHead, Link, SetTail as ToTail, Fence}

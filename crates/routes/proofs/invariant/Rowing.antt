@@ -1,9 +1,9 @@
 -- A turn after which late stores are of another kind.
-use mathlib.Core.Path.{_≡_, refl, sym, ap, subst, _∙_}
+use mathlib.Core.Path.{_≡_, refl}
 use mathlib.Core.Bool.{Bool, true}
 use mathlib.Core.List.{List, _∷_}
 use mathlib.Core.Logic.{inl}
-use Prim.Native.Nat.{ℕ, _+_, _<_, _≤_}
+use Prim.Native.Nat.{ℕ}
 use native.Mathlib.Omega.{arith}
 use lib.Dec.{T}
 use lib.ListN.{length}
@@ -15,13 +15,12 @@ use Rattle.routes.specs.Routes.{Route, Event, Turned, State, Run, young}
 use Rattle.routes.specs.late.View.{view}
 use Rattle.routes.specs.invariant.Ghosts.{Ghost, Row}
 use Rattle.routes.specs.invariant.Inv.{Cpus, Inv}
-use Rattle.routes.specs.invariant.Memories.{RowOk, Sight, Core}
+use Rattle.routes.specs.invariant.Memories.{RowOk, Core}
 use Rattle.routes.specs.invariant.Registers.{holdsIn, passedIn}
 use Rattle.routes.specs.invariant.Writers.{PhaseFacts, hallOf}
 use Rattle.routes.proofs.late.View.{view-counted}
 use Rattle.routes.proofs.invariant.Alike.{alike-same}
 use Rattle.routes.proofs.invariant.Holding.{core-counted, hold-turn}
-use Rattle.routes.proofs.invariant.Rely.{Leaves}
 use Rattle.routes.proofs.invariant.Sights.{rowed}
 use Rattle.routes.proofs.invariant.Steps.{lockOf, setCpu, Turn}
 

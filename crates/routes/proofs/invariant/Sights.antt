@@ -1,18 +1,16 @@
 -- What the holder sees of epochs and limbo, after its stores.
-use mathlib.Core.Path.{_≡_, refl, sym, ap, subst, _∙_}
-use mathlib.Core.Bool.{Bool, true, false}
-use mathlib.Core.List.{List, [], _∷_, _++_}
-use mathlib.Core.Logic.{_⊎_, inl, inr}
-use Prim.Native.Nat.{ℕ, suc, _+_, _<_, _≤_}
+use mathlib.Core.Path.{_≡_, sym, ap, subst, _∙_}
+use mathlib.Core.Bool.{true, false}
+use mathlib.Core.List.{[], _++_}
+use mathlib.Core.Logic.{inl, inr}
+use Prim.Native.Nat.{ℕ, _+_, _<_, _≤_}
 use native.Mathlib.Omega.{arith}
-use lib.Dec.{eqb}
-use Rattle.std.proofs.shelf.Ways.{tells}
-use Rattle.std.proofs.shelf.Tests.{ne-eqb, cases-lt}
+use Rattle.std.proofs.shelf.Tests.{cases-lt}
 use Rattle.routes.specs.Memory.{setVal}
 use Rattle.routes.specs.counts.Counts.{cnt}
 use Rattle.routes.specs.invariant.Ghosts.{Ghost, Row}
 use Rattle.routes.specs.invariant.Memories.{Chain, lastFrom, Sight}
-use Rattle.routes.proofs.basics.Places.{setVal-hit, setVal-miss}
+use Rattle.routes.proofs.basics.Places.{setVal-miss}
 use Rattle.routes.proofs.counts.Lists.{cnt-++}
 use Rattle.routes.proofs.invariant.Joining.{chain-keeps, chain-set, join-chain}
 

@@ -6,7 +6,7 @@ use Prim.Native.Nat.{ℕ, suc, _+_, _<_, _≤_}
 use native.Mathlib.Omega.{arith}
 use Rattle.own.specs.Layout.{wordsOf}
 use Rattle.routes.specs.declared.update.job.Job.{Job}
-use Rattle.routes.specs.Memory.{Mem, setVal, stored, counted}
+use Rattle.routes.specs.Memory.{Mem, stored}
 use Rattle.routes.specs.Routes.{Route, Now}
 use Rattle.routes.specs.build.Stages.{Built}
 use Rattle.routes.specs.counts.Counts.{cnt}
@@ -14,7 +14,7 @@ use Rattle.routes.specs.late.Rows.{AllRow, storeOf}
 use Rattle.routes.specs.late.View.{view}
 use Rattle.routes.specs.tree.Trees.{count}
 use Rattle.routes.specs.invariant.Building.{Published}
-use Rattle.routes.specs.invariant.Ghosts.{Ghost, Row, still, calm, ripe}
+use Rattle.routes.specs.invariant.Ghosts.{Ghost, still, calm, ripe}
 use Rattle.routes.specs.invariant.Holders.{gotBlocks, replacedBlocks, restBlocks}
 use Rattle.routes.specs.invariant.Memories.{Chain, lastFrom, CalmStore, RowOk, Sight, Core}
 use Rattle.routes.proofs.counts.Lists.{cnt-++}

@@ -48,18 +48,22 @@ edit-some c d (m ∷ ns) t = omega arith
 
 -- The words of a piece and the piece make the same edit of own words, and leave the same levels.
 module _ (w : PieceWords) (p : Piece) (is : w ≡ stored p) (hb : p .bits < 2 ^ 32) (ht : p .tells < 2 ^ 32) (have : ℕ) (own : Own) (fresh : ℕ → ℕ) where
+  -- Its bits are 32.
   whole-bits : p .bits % 2 ^ 32 ≡ p .bits
   whole-bits = omega arith
 
+  -- The edit is the same.
   same-edit : wordsEdit (stored p) fresh ≡ editOf p fresh
   same-edit = words-edit (stored p) p fresh refl refl refl refl hb ht
 
+  -- So are the own words after it.
   edited-same : editedWords (wordsEdit w fresh) (nibs 0 (deepOf w) (bitsOf w)) have (deepOf w) own ≡ editedWords (editOf p fresh) (wayOf (p .len) (p .bits)) have (p .len / 4) own
   edited-same =
       ap (λ z. editedWords (wordsEdit z fresh) (nibs 0 (deepOf z) (bitsOf z)) have (deepOf z) own) is
         ∙ ap (λ z. editedWords z (nibs 0 (p .len / 4) (p .bits % 2 ^ 32)) have (p .len / 4) own) same-edit
         ∙ ap (λ z. editedWords (editOf p fresh) (nibs 0 (p .len / 4) z) have (p .len / 4) own) whole-bits
 
+  -- And the levels that it leaves.
   levels-same : levelsLeft (wordsEdit w fresh) 0 (nibs 0 (deepOf w) (bitsOf w)) (blankedIn have (deepOf w) own) ≡ levelsLeft (editOf p fresh) 0 (wayOf (p .len) (p .bits)) (blankedIn have (p .len / 4) own)
   levels-same =
       ap (λ z. levelsLeft (wordsEdit z fresh) 0 (nibs 0 (deepOf z) (bitsOf z)) (blankedIn have (deepOf z) own)) is
@@ -82,15 +86,19 @@ module _ (v : ℕ → ℕ → ℕ) (hall : Hall) (g : Ghost) (o : List ℕ) (rs 
   job = rebuilt (j .used + levelsEdited o k have (j .used)) (j .retired + have) (freshIn o (j .used)) j
 
   module _ (room : length o ≡ 4096) (f : Have (wordsOf o) W (j .retired) (piece .bits) have (piece .len / 4)) where
+    -- Its words have a length of 32 at most.
     short : pieceIn o k .len ≤ 32
     short = subst (λ z. z .len ≤ 32) (sym (staged-words v g o rs n j k W s)) (staged-clean v g o rs n j k W s .short)
 
+    -- At most nine nodes were read.
     few : have ≤ 9
     few = let l = staged-clean v g o rs n j k W s .short in omega (arith, f .few)
 
+    -- What it tells is a number of 32 bits.
     tells-small : piece .tells < 2 ^ 32
     tells-small = s .equipped .sure .pending .fits k (s .here) .tells
 
+    -- There are blocks for all levels of its way.
     fits : j .used + suc (piece .len / 4) ≤ j .need
     unfolding wants
     fits = omega (arith, staged-piece v g o rs n j k W s .room)
@@ -123,6 +131,7 @@ module _ (v : ℕ → ℕ → ℕ) (hall : Hall) (g : Ghost) (o : List ℕ) (rs 
     same-but retired i (inl l) = edited-outside o k have (j .used) room few short i (inl l)
     same-but retired i (inr l) = edited-outside o k have (j .used) room few short i (inr (omega (arith, l .0)))
 
+    -- The update is still equipped.
     equipped-after : Equipped g after rs n job calm (s .ps) (s .qs)
     equipped-after =
         let e = equipped-stays g o after rs n j calm (s .ps) (s .qs) (j .retired) (same-but (j .retired)) (s .equipped) in

@@ -58,6 +58,7 @@ module _ (v : ℕ → ℕ → ℕ) (hall : Hall) (g : Ghost) (o : List ℕ) (rs 
     words-are : wordsOf after ≡ put (retiredAt (j .retired + d)) b (put (imageAt d i) (taken i (v b i)) (wordsOf o))
     words-are = read-words j o d i b (v b i) room (omega arith) hi (omega (arith, staged-room v g o rs n j k W s .1))
 
+    -- Pieces and blocks are the same.
     same-but : SameBut (wordsOf o) (wordsOf after) (j .retired)
     same-but e out = ap (λ f. f e) words-are ∙ put-miss (retiredAt (j .retired + d)) b imaged e (λ q. away q out) ∙ put-miss (imageAt d i) (taken i (v b i)) (wordsOf o) e (λ q. off q out)
       where

@@ -85,8 +85,9 @@ module _ (v : ℕ → ℕ → ℕ) (g : Ghost) (o : List ℕ) (rs : List Route) 
       (s .here, s .equipped .sure .pending .few, omega (arith, writes-deep k first d i s, s .deep),
        omega (arith, need-few g o rs n j calm (s .ps) (s .qs) (s .equipped), s .write .held .spent, s .deep), s .word)
 
--- Its turns may be taken.
+-- h holds the lock, and may ask
 module _ (m : Mem) (h : ℕ) (locked : Bool) (g : Ghost) (rs : List Route) (t : ℕ) (c : Core m h locked g rs t) (a : MayAsk m h) (o : List ℕ) (n : Now) (j : Job) where
+  -- What a turn asks may be asked.
   build-may : (s : Build) → BuildFacts (view h m) g o rs n j s → MayDo m h (buildAct s o)
   unfolding BuildFacts
   build-may Root f = header-touch c a 1 (omega arith)
@@ -98,5 +99,6 @@ module _ (m : Mem) (h : ℕ) (locked : Bool) (g : Ghost) (rs : List Route) (t : 
       let u = writes-fresh (view h m) g o rs n j k first d i f in
       rw (writes-block (view h m) g o rs n j k first d i f) (used-touch c a (f .fresh d) i (omega arith) (omega (arith, f .word)))
 
+  -- So it may be taken.
   pub build-ready : length o ≡ 4096 → (s : Build) → BuildFacts (view h m) g o rs n j s → BuildReady m h j s o
   build-ready r s f = record { ok = build-ok (view h m) g o rs n j s f; room = r; may = build-may s f }

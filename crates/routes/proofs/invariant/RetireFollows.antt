@@ -58,11 +58,13 @@ module _ (v : ℕ → ℕ → ℕ) (hall : Hall) (g : Ghost) (o : List ℕ) (rs 
       (λ l. (let z : j .retired ≡ 0 = omega (arith, ltb-false 0 (j .retired) l) in
              subst (λ z. Retires (rowed calm g) o n j calm z) (none-replaced o j z) (retires-rowed still calm (replacedBlocks o j) (f .0)), f .1))
 
-  -- Replaced blocks are no header, and no two are the same.
+  -- what is loose is the replaced blocks, no header, and each once
   module _ (solid : (b : ℕ) → 1 ≤ cnt b (g .loose) → b ≡ 0 → ⊥) (once : (b : ℕ) → cnt b (g .loose) ≤ 1) (is : g .loose ≡ replacedBlocks o j) where
+    -- They are no header.
     replaced-real : (i : ℕ) → i < j .retired → replacedAt o i ≡ 0 → ⊥
     replaced-real i l = solid (replacedAt o i) (replaced-loose g o j i is l)
 
+    -- A store to one leaves those before it.
     replaced-apart : (k i w x u : ℕ) → k < i → i < j .retired → setVal (replacedAt o i) w x v (replacedAt o k) u ≡ v (replacedAt o k) u
     replaced-apart k i w x u l h = setVal-miss (replacedAt o i) w x v (replacedAt o k) u (λ d. seg-apart (wordsOf o) (retiredAt 0) (j .retired) k i (λ b. subst (λ z. cnt b z ≤ 1) is (once b)) l h (d .0))
 

@@ -66,5 +66,6 @@ module _ (m : Mem) (h : ℕ) (locked : Bool) (g : Ghost) (rs : List Route) (t : 
   retire-may a SetTail f = header-touch c a 4 (omega arith)
   retire-may a Fence f = (a .once, a .turn, a .inside)
 
+  -- So its turns may be taken.
   pub retire-ready : suc t < 2 ^ 64 → MayAsk m h → length o ≡ 4096 → (s : Retire) → RetireFacts (view h m) g o n j s → RetireReady m h j s o
   retire-ready few a r s f = record { ok = retire-ok few s f; room = r; may = retire-may a s f }

@@ -65,10 +65,11 @@ module _ {m : Mem} {g : Ghost} {trail : ℕ → List ℕ} {s : State} {t : ℕ} 
   unfolding PhaseFacts
   facts st e = holder-facts i j (InRetire st) e
 
-  -- What is loose is no header, and once.
+  -- What is loose is no header.
   solid : (b : ℕ) → 1 ≤ cnt b (g .loose) → b ≡ 0 → ⊥
   solid b l = real (i .core) b (omega arith)
 
+  -- And it is there once.
   once : (b : ℕ) → cnt b (g .loose) ≤ 1
   once b = omega (arith, used-once (i .core) b)
 

@@ -20,6 +20,7 @@ pub mod Arriving
 pub mod Calm
 pub mod Holding
 pub mod Local
+pub mod Lookups
 pub mod Moment
 pub mod Rely
 pub mod Ripening

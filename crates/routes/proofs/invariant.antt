@@ -33,3 +33,4 @@ pub mod BuildTurns
 pub mod PublishTurns
 pub mod Fencing
 pub mod RetireTurns
+pub mod ChangeTurns

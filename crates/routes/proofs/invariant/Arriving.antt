@@ -6,6 +6,7 @@ use mathlib.Core.Logic.{inl, inr}
 use Prim.Native.Nat.{ℕ, _≤_}
 use native.Mathlib.Omega.{arith}
 use Rattle.std.proofs.shelf.Ways.{tells as tests, eqb-tells}
+use Rattle.std.proofs.shelf.Tests.{ne-eqb}
 use Rattle.routes.specs.declared.Ask.the-variants.{Change}
 use Rattle.routes.specs.Memory.{Mem, Store, Arrives, rest, one, oldest}
 use Rattle.routes.specs.Routes.{Event, Under, State, Run}
@@ -29,6 +30,7 @@ pub record Still (m : Mem) (k : Lock) (g : Ghost) (trail : ℕ → List ℕ) (s 
   pub waits : state .waits ≡ s .waits
   pub lead : state .lead ≡ s .lead
   pub nows : (q : ℕ) → Passes (s .now' q) (state .now' q)
+  pub others : (q : ℕ) → (q ≡ k .who → ⊥) → state .now' q ≡ s .now' q
   pub chain : ghost .chain ≡ g .chain
   pub stamps : (b : ℕ) → 1 ≤ cnt b (g .chain) → ghost .stamps b ≡ g .stamps b
   pub held : m' .held ≡ m .held
@@ -38,12 +40,12 @@ pub record Still (m : Mem) (k : Lock) (g : Ghost) (trail : ℕ → List ℕ) (s 
 module _ {m : Mem} {k : Lock} {g : Ghost} {trail : ℕ → List ℕ} {s : State} {t : ℕ} {c : Cpus} {cpus blocks : ℕ} {es : List Event} (i : Inv m k g trail s t c) (r : Run cpus blocks es s) where
   -- Where nothing arrives.
   pub still-same : Still m k g trail s t c cpus blocks es m
-  still-same = record { ghost = g; state = s; run = r; inv = i; waits = refl; lead = refl; nows = λ q. same; chain = refl; stamps = λ b u. refl; held = refl; cpus' = refl; blocks' = refl }
+  still-same = record { ghost = g; state = s; run = r; inv = i; waits = refl; lead = refl; nows = λ q. same; others = λ q ne. refl; chain = refl; stamps = λ b u. refl; held = refl; cpus' = refl; blocks' = refl }
 
   -- A calm store.
   still-calm : (x : Store) (xs : List Store) → plain (g .row) ≡ true → m .late (k .who) ≡ x ∷ xs → Still m k g trail s t c cpus blocks es (landed (k .who) x xs m)
   still-calm x xs p late = record
-    { ghost = g; state = s; run = r; inv = calm-inv x xs i p late; waits = refl; lead = refl; nows = λ q. same; chain = refl; stamps = λ b u. refl; held = refl; cpus' = refl; blocks' = refl }
+    { ghost = g; state = s; run = r; inv = calm-inv x xs i p late; waits = refl; lead = refl; nows = λ q. same; others = λ q ne. refl; chain = refl; stamps = λ b u. refl; held = refl; cpus' = refl; blocks' = refl }
 
   -- The new root.
   still-moment : (a : RipeAt g (c .own (k .who)) (s .table) (s .now' (k .who)) (c .work (k .who))) → Still m k g trail s t c cpus blocks es (after i a)
@@ -52,6 +54,7 @@ module _ {m : Mem} {k : Lock} {g : Ghost} {trail : ℕ → List ℕ} {s : State}
     ; nows = λ q. elim (eqb-tells q (k .who)) [
           inl e ↦ rw (e .0) (let n : s .now' q ≡ Under (Change (a .ripens .awaits .0)) (a .ripens .ps) (a .ripens .awaits .1) = ap (s .now') (e .1) ∙ a .ripens .awaits .2 in rw n over)
         | inr e ↦ rw (e .0) same ]
+    ; others = λ q ne. rw (ne-eqb q (k .who) ne) refl
     ; chain = refl
     ; stamps = λ b u. (let z = gone-apart i a b u in grind (arith, tests))
     ; held = refl; cpus' = refl; blocks' = refl }
@@ -85,6 +88,7 @@ arrives-inv (one {m = m} q a) i r =
       ; waits = y .waits ∙ x .waits
       ; lead = y .lead ∙ x .lead
       ; nows = λ q. passes-on (x .nows q) (y .nows q)
+      ; others = λ q ne. y .others q ne ∙ x .others q ne
       ; chain = y .chain ∙ x .chain
       ; stamps = λ b u. y .stamps b (rw (x .chain) u) ∙ x .stamps b u
       ; held = y .held ∙ x .held

@@ -8,3 +8,4 @@ pub mod build
 pub mod late
 pub mod run
 pub mod machine
+pub mod invariant

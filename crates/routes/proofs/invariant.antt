@@ -1,1 +1,4 @@
 pub mod Falls
+pub mod Standing
+pub mod InTime
+pub mod AgedTurns

@@ -2,3 +2,4 @@ pub mod Falls
 pub mod Standing
 pub mod InTime
 pub mod AgedTurns
+pub mod TellsInTime

@@ -44,9 +44,13 @@ aged-young cpus p s work o some ok busy aged =
     let here = aged p in
     young-is (s .now' p) ∙ lt-ltb _ _ (omega arith)
 
--- What takes effect gets no older by it: so it is when a store arrives.
+-- Where ages, limits and waits stay, what is left stays: so it is when stores arrive.
+pub aged-on : (cpus : ℕ) (s s' : State) (work : ℕ → Work) → ((q : ℕ) → ageOf (s' .now' q) ≡ ageOf (s .now' q)) → ((q : ℕ) → limitOf (s' .now' q) ≡ limitOf (s .now' q)) → s' .waits ≡ s .waits → Aged cpus s work → Aged cpus s' work
+aged-on cpus s s' work ages limits waits aged q = omega (arith, aged q, ages q, limits q, ap (λ f. pot cpus (unawaitedIn work (f q)) (work q)) waits)
+
+-- What takes effect gets no older by it.
 pub aged-settled : (cpus p : ℕ) (s : State) (work : ℕ → Work) (k : Ask) (ps : List Piece) (a : Answer) (g : ℕ) (t : List Route) → s .now' p ≡ Under k ps g → Aged cpus s work → Aged cpus (settledAt p k a g t s) work
-aged-settled cpus p s work k ps a g t e aged q = omega (arith, settled-age p q k ps a g t s e, settled-kind p q k ps a g t s e .limits, aged q)
+aged-settled cpus p s work k ps a g t e = aged-on cpus s (settledAt p k a g t s) work (λ q. settled-age p q k ps a g t s e) (λ q. settled-kind p q k ps a g t s e .limits) refl
 
 -- So is who begins to lead.
 pub aged-led : (cpus p : ℕ) (s : State) (work : ℕ → Work) → Aged cpus s work → Aged cpus (led p s) work

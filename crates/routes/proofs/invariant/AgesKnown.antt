@@ -1,31 +1,27 @@
--- What the invariant says for ages: a turn by a turn, nothing gets too old.
+-- What a turn rests on, for ages, follows from the invariant.
 use mathlib.Core.Path.{_≡_, refl, sym, ap, subst, _∙_}
-use mathlib.Core.Bool.{true, false, _||_, not}
+use mathlib.Core.Bool.{true, false}
 use mathlib.Core.List.{List, []}
 use mathlib.Core.Logic.{_⊎_, inl, inr}
-use Prim.Native.Nat.{ℕ, zero, suc, _+_, _<_, _≤_}
+use Prim.Native.Nat.{ℕ, _+_, _<_, _≤_}
 use native.Mathlib.Omega.{arith}
-use Rattle.std.proofs.shelf.Ways.{tells as tests, eqb-tells}
+use Rattle.std.proofs.shelf.Ways.{eqb-tells}
 use Rattle.std.proofs.shelf.Tests.{cases-bool, cases-lt, both-ways, and-parts, eqb-true, eq-eqb}
-use Rattle.routes.specs.declared.Ask.{Ask}
-use Rattle.routes.specs.declared.Answer.{Answer}
-use Rattle.routes.specs.declared.Piece.{Piece}
 use Rattle.routes.specs.declared.lookup.Lookup.the-variants.{Epoch, Announce, Root, Node, Leave}
 use Rattle.routes.specs.declared.update.job.Job.{Job}
 use Rattle.routes.specs.declared.update.scan.Scan.the-variants.{ForNode}
 use Rattle.routes.specs.declared.update.Phase.the-variants.{Refuse, Lock as Locking, Check, Obtain, Recycle, Scan, Build, Publish, Retire, Reclaim, Finish}
 use Rattle.routes.specs.declared.work.Work.{Work}
 use Rattle.routes.specs.declared.work.Work.the-variants.{Idle, Lookup as Looking, Update as Updating}
-use Rattle.routes.specs.Memory.{Mem, setAt, sees}
-use Rattle.routes.specs.Routes.{Route, Now, Under, State, busy, isQuestion, leader, none, led, mustWait}
+use Rattle.routes.specs.Memory.{Mem, sees}
+use Rattle.routes.specs.Routes.{Route, Now, State, isQuestion, mustWait}
 use Rattle.routes.specs.counts.Counts.{cnt}
 use Rattle.routes.specs.late.Rows.{AllRow}
 use Rattle.routes.specs.late.View.{view}
 use Rattle.routes.specs.machine.Acts.{Did}
-use Rattle.routes.specs.machine.Cpus.{WorkOk, act, workAfter}
+use Rattle.routes.specs.machine.Cpus.{act}
 use Rattle.routes.specs.run.Nows.{isChange}
-use Rattle.routes.specs.run.Steps.{settledAt, turnedAt}
-use Rattle.routes.specs.invariant.Ages.{Aged, SameWork, AgeFacts}
+use Rattle.routes.specs.invariant.Ages.{SameWork, AgeFacts}
 use Rattle.routes.specs.invariant.Gathering.{Stands}
 use Rattle.routes.specs.invariant.Ghosts.{Ghost}
 use Rattle.routes.specs.invariant.Holders.{Resting}
@@ -38,9 +34,6 @@ use Rattle.routes.proofs.late.Fence.{swap-reply}
 use Rattle.routes.proofs.late.Sees.{sees-none, sees-untouched}
 use Rattle.routes.proofs.late.View.{open-low, view-open}
 use Rattle.routes.proofs.run.Leads.{leader-waits}
-use Rattle.routes.proofs.run.Nows.{SameKind, kind-same, quiet-is, kind-busy}
-use Rattle.routes.proofs.run.Steps.{settled-kind}
-use Rattle.routes.proofs.invariant.InTime.{aged-settled, aged-led, aged-turn}
 
 -- Registers are of the kind of what is under way.
 pub does-same : (val : ℕ → ℕ → ℕ) (w : Work) (o trail : List ℕ) (n : Now) → Does val w o trail n → SameWork w n
@@ -150,7 +143,7 @@ module _ {m : Mem} {k : Lock} {g : Ghost} {trail : ℕ → List ℕ} {s : State}
         let n = stands-at p r b stamp j e in
         did-at (Updating j (Scan (ForNode r b stamp))) e .0 ∙ (ap (λ h. sees h 0 (16 + r) m) (n .0) ∙ (stands-sees r b stamp (16 + r) j (n .1) (inr (omega arith)) ∙ i .readers r .active))
 
-    -- What a turn rests on, for ages, follows from the invariant.
+    -- All that a turn rests on, for ages.
     pub age-facts : AgeFacts (m .cpus) p s (c .work) (m .val 0 2) x
     age-facts = record
       { kinds = λ q. does-same (m .val) (c .work q) (c .own q) (trail q) (s .now' q) (i .readers q .does)
@@ -159,54 +152,3 @@ module _ {m : Mem} {k : Lock} {g : Ghost} {trail : ℕ → List ℕ} {s : State}
       ; loads = loads-epoch
       ; fails = lock-waits
       ; sees = sees-announced }
-
--- Who leads beside p says whether p must wait.
-leader-same : (n p : ℕ) (s s' : State) → ((q : ℕ) → (q ≡ p → ⊥) → s' .lead q ≡ s .lead q) → leader n p s' ≡ leader n p s
-unfolding leader
-leader-same zero p s s' h = refl
-leader-same (suc n) p s s' h = let ih = leader-same n p s s' h in let here = h n in grind (arith, tests)
-
--- what may take place unseen at p in its turn: nothing, what is under way takes effect, or it begins to lead
-pub data Unseen (p : ℕ) (s : State) : State → Type 0 where
-  nothing : Unseen p s s
-  settles : (k : Ask) (ps : List Piece) (a : Answer) (age : ℕ) (rs : List Route) → s .now' p ≡ Under k ps age → Unseen p s (settledAt p k a age rs s)
-  leads : Unseen p s (led p s)
-
--- It changes neither what kind is under way
-unseen-kind : {p : ℕ} {s s' : State} → Unseen p s s' → (q : ℕ) → SameKind (s .now' q) (s' .now' q)
-unseen-kind {p} {s} nothing q = kind-same (s .now' q)
-unseen-kind {p} {s} (settles k ps a age rs e) q = settled-kind p q k ps a age rs s e
-unseen-kind {p} {s} leads q = kind-same (s .now' q)
-
--- nor whether p must wait
-unseen-waits : (cpus : ℕ) {p : ℕ} {s s' : State} → Unseen p s s' → mustWait cpus p s' ≡ mustWait cpus p s
-unseen-waits cpus {p} {s} nothing = refl
-unseen-waits cpus {p} {s} (settles k ps a age rs e) = ap (λ b. not (none (s .waits p)) || b) (leader-same cpus p s (settledAt p k a age rs s) (λ q ne. refl))
-unseen-waits cpus {p} {s} leads = ap (λ b. not (none (s .waits p)) || b) (leader-same cpus p s (led p s) (λ q ne. (let z = ne in grind (arith, tests))))
-
--- nor what is left.
-pub unseen-aged : (cpus : ℕ) {p : ℕ} {s s' : State} (work : ℕ → Work) → Unseen p s s' → Aged cpus s work → Aged cpus s' work
-unseen-aged cpus {p} {s} work nothing aged = aged
-unseen-aged cpus {p} {s} work (settles k ps a age rs e) aged = aged-settled cpus p s work k ps a age rs e aged
-unseen-aged cpus {p} {s} work leads aged = aged-led cpus p s work aged
-
--- Registers stay of the kind of what is under way.
-same-kind : (w : Work) (n n' : Now) → SameKind n n' → SameWork w n → SameWork w n'
-unfolding SameWork busy
-same-kind Idle n n' e k = quiet-is n' (kind-busy e ∙ (rw k refl))
-same-kind (Looking l) n n' e k = e .question ∙ k
-same-kind (Updating j s) n n' e k = e .change ∙ k
-
--- What a turn rests on holds after what takes place unseen.
-facts-unseen : {cpus p : ℕ} {s s' : State} {work : ℕ → Work} {epoch x : ℕ} → Unseen p s s' → AgeFacts cpus p s work epoch x → AgeFacts cpus p s' work epoch x
-facts-unseen {cpus} {p} {s} {s'} {work} u f = record
-  { kinds = λ q. same-kind (work q) (s .now' q) (s' .now' q) (unseen-kind u q) (f .kinds q)
-  ; outside = f .outside; past = f .past; loads = f .loads
-  ; fails = λ j e n. unseen-waits cpus u ∙ f .fails j e n
-  ; sees = f .sees }
-
--- After a turn of p, with what took place unseen in it, what is left to anything under way is enough.
-pub turn-aged : {m : Mem} {k : Lock} {g : Ghost} {trail : ℕ → List ℕ} {s : State} {t : ℕ} {c : Cpus} → Inv m k g trail s t c → (p x : ℕ) (n : Mem) → Did p (act p (c .work p) (c .own p)) m x n → WorkOk (c .work p) (c .own p) →
-    {s' : State} → Unseen p s s' → Aged (m .cpus) s (c .work) → Aged (m .cpus) (turnedAt (m .cpus) p s') (setAt p (workAfter (m .cpus) (c .work p) (c .own p) x) (c .work))
-turn-aged {m} {s = s} {c = c} i p x n did ok {s'} u aged =
-    aged-turn (m .cpus) p s' (c .work) (m .val 0 2) x (facts-unseen u (age-facts i p x n did)) (unseen-aged (m .cpus) (c .work) u aged) (c .own p) (i .core .sizes .someone) ok

@@ -7,6 +7,7 @@ pub mod Calm
 pub mod Falls
 pub mod Holding
 pub mod InTime
+pub mod Local
 pub mod Moment
 pub mod Rely
 pub mod Ripening

@@ -1,12 +1,11 @@
 -- What a turn rests on, for ages, follows from the invariant.
 use mathlib.Core.Path.{_≡_, refl, sym, ap, subst, _∙_}
 use mathlib.Core.Bool.{true, false}
-use mathlib.Core.List.{List, []}
+use mathlib.Core.List.{List}
 use mathlib.Core.Logic.{_⊎_, inl, inr}
 use Prim.Native.Nat.{ℕ, _+_, _<_, _≤_}
 use native.Mathlib.Omega.{arith}
-use Rattle.std.proofs.shelf.Ways.{eqb-tells}
-use Rattle.std.proofs.shelf.Tests.{cases-bool, cases-lt, both-ways, and-parts, eqb-true, eq-eqb}
+use Rattle.std.proofs.shelf.Tests.{cases-bool, both-ways, and-parts, eqb-true, eq-eqb}
 use Rattle.routes.specs.declared.lookup.Lookup.the-variants.{Epoch, Announce, Root, Node, Leave}
 use Rattle.routes.specs.declared.update.job.Job.{Job}
 use Rattle.routes.specs.declared.update.scan.Scan.the-variants.{ForNode}
@@ -14,7 +13,7 @@ use Rattle.routes.specs.declared.update.Phase.the-variants.{Refuse, Lock as Lo
 use Rattle.routes.specs.declared.work.Work.{Work}
 use Rattle.routes.specs.declared.work.Work.the-variants.{Idle, Lookup as Looking, Update as Updating}
 use Rattle.routes.specs.Memory.{Mem, sees}
-use Rattle.routes.specs.Routes.{Route, Now, State, isQuestion, mustWait}
+use Rattle.routes.specs.Routes.{Now, State, isQuestion, mustWait}
 use Rattle.routes.specs.counts.Counts.{cnt}
 use Rattle.routes.specs.late.Rows.{AllRow}
 use Rattle.routes.specs.late.View.{view}
@@ -24,16 +23,17 @@ use Rattle.routes.specs.run.Nows.{isChange}
 use Rattle.routes.specs.invariant.Ages.{SameWork, AgeFacts}
 use Rattle.routes.specs.invariant.Gathering.{Stands}
 use Rattle.routes.specs.invariant.Ghosts.{Ghost}
-use Rattle.routes.specs.invariant.Holders.{Resting}
 use Rattle.routes.specs.invariant.Inv.{Lock, Cpus, Inv}
 use Rattle.routes.specs.invariant.Memories.{HeadStore, RowOk}
 use Rattle.routes.specs.invariant.Readers.{LooksUp, Updates, Does}
 use Rattle.routes.specs.invariant.Registers.{holdsIn, holds, announced}
-use Rattle.routes.specs.invariant.Writers.{Hall, ScanFacts, PhaseFacts, Writer, hallOf}
+use Rattle.routes.specs.invariant.Writers.{ScanFacts, PhaseFacts, Writer, hallOf}
 use Rattle.routes.proofs.late.Fence.{swap-reply}
 use Rattle.routes.proofs.late.Sees.{sees-none, sees-untouched}
 use Rattle.routes.proofs.late.View.{open-low, view-open}
 use Rattle.routes.proofs.run.Leads.{leader-waits}
+use Rattle.routes.proofs.invariant.Local.{quiet-late}
+use Rattle.routes.proofs.invariant.Steps.{busy-small}
 
 -- Registers are of the kind of what is under way.
 pub does-same : (val : ℕ → ℕ → ℕ) (w : Work) (o trail : List ℕ) (n : Now) → Does val w o trail n → SameWork w n
@@ -56,40 +56,11 @@ does-same val (Updating j (Retire s)) o trail n d = d .1
 does-same val (Updating j (Reclaim s)) o trail n d = d .1
 does-same val (Updating j (Finish s)) o trail n d = d .1
 
--- Of one that has not the lock nothing is left over.
-writer-rests : (v : ℕ → ℕ → ℕ) (hall : Hall) (g : Ghost) (o : List ℕ) (rs : List Route) (n : Now) (w : Work) → Writer v hall g o rs n w → holds w ≡ false → Resting g
-unfolding Writer PhaseFacts holds holdsIn
-writer-rests v hall g o rs n Idle f h = f
-writer-rests v hall g o rs n (Looking l) f h = f
-writer-rests v hall g o rs n (Updating j Refuse) f h = f
-writer-rests v hall g o rs n (Updating j Locking) f h = f
-writer-rests v hall g o rs n (Updating j (Check s)) f h = absurd (both-ways _ h refl)
-writer-rests v hall g o rs n (Updating j (Obtain s)) f h = absurd (both-ways _ h refl)
-writer-rests v hall g o rs n (Updating j (Recycle s)) f h = absurd (both-ways _ h refl)
-writer-rests v hall g o rs n (Updating j (Scan s)) f h = absurd (both-ways _ h refl)
-writer-rests v hall g o rs n (Updating j (Build s)) f h = absurd (both-ways _ h refl)
-writer-rests v hall g o rs n (Updating j (Publish s)) f h = absurd (both-ways _ h refl)
-writer-rests v hall g o rs n (Updating j (Retire s)) f h = absurd (both-ways _ h refl)
-writer-rests v hall g o rs n (Updating j (Reclaim s)) f h = absurd (both-ways _ h refl)
-writer-rests v hall g o rs n (Updating j (Finish s)) f h = absurd (both-ways _ h refl)
-
 module _ {m : Mem} {k : Lock} {g : Ghost} {trail : ℕ → List ℕ} {s : State} {t : ℕ} {c : Cpus} (i : Inv m k g trail s t c) where
-  -- Who has not the lock has no late stores.
-  free-row : (p : ℕ) → holds (c .work p) ≡ false → m .late p ≡ []
-  unfolding RowOk
-  free-row p free = elim (eqb-tells p (k .who)) [
-        inl e ↦ ap (m .late) (e .1) ∙ subst (λ z. RowOk z m (k .who) g (view (k .who) m 0 2)) (rested (rw (e .1) at free) .has .row) (i .core .row)
-      | inr e ↦ i .core .others p (e .1) ]
-    where
-      rested : holds (c .work (k .who)) ≡ false → Resting g
-      rested free = writer-rests _ _ g _ _ _ (c .work (k .who)) (i .writer) free
-
   -- Who has the lock is a processor.
   holder-small : k .held ≡ true → k .who < m .cpus
   unfolding holds
-  holder-small held = elim (cases-lt (k .who) (m .cpus)) [
-        inl l ↦ l
-      | inr l ↦ absurd (both-ways _ (rw (i .outside (k .who) l) refl) (i .holding (k .who) ∙ (rw (held, eq-eqb (k .who) (k .who) refl) refl))) ]
+  holder-small held = busy-small i (k .who) (λ e. both-ways _ (rw e refl) (i .holding (k .who) ∙ (rw (held, eq-eqb (k .who) (k .who) refl) refl)))
 
   -- One that stands at a processor has the lock, and its facts.
   stands-at : (q r b stamp : ℕ) (j : Job) → c .work q ≡ Updating j (Scan (ForNode r b stamp)) → (q ≡ k .who) × Stands (m .cpus) g (c .own (k .who)) (s .table) (s .now' (k .who)) j r b stamp
@@ -123,14 +94,14 @@ module _ {m : Mem} {k : Lock} {g : Ghost} {trail : ℕ → List ℕ} {s : State}
     -- A lookup that loads EPOCH has it.
     loads-epoch : (a : ℕ) → c .work p ≡ Looking (Epoch a) → x ≡ m .val 0 2
     unfolding holds
-    loads-epoch a e = did-at (Looking (Epoch a)) e .0 ∙ sees-none p 0 2 m (free-row p (rw e refl))
+    loads-epoch a e = did-at (Looking (Epoch a)) e .0 ∙ sees-none p 0 2 m (quiet-late p i (rw e refl))
 
     -- Where the lock is not free, somebody leads.
     lock-waits : (j : Job) → c .work p ≡ Updating j Locking → (x ≡ 0 → ⊥) → mustWait (m .cpus) p s ≡ true
     unfolding holds holdsIn
     lock-waits j e full =
         let free : holds (c .work p) ≡ false = rw e refl in
-        let word : x ≡ m .val 0 0 = did-at (Updating j Locking) e .0 ∙ swap-reply p 0 0 m (free-row p free) in
+        let word : x ≡ m .val 0 0 = did-at (Updating j Locking) e .0 ∙ swap-reply p 0 0 m (quiet-late p i free) in
         elim (cases-bool (k .held)) [
           inl held ↦ leader-waits (m .cpus) p (k .who) s (holder-small held)
             (λ h. both-ways _ (sym (i .holding (k .who)) ∙ (rw h free)) (rw (held, eq-eqb (k .who) (k .who) refl) refl))

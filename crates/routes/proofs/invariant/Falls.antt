@@ -117,6 +117,7 @@ module _ (c : ℕ) (v : ℕ → ℕ → Bool) where
             inl f ↦ rw f (omega (arith, get-least c 72))
           | inr f ↦ rw f (omega arith) ]) ]
 
+  -- Check.
   check-falls : (j : Job) (s : CheckState) (o : List ℕ) (x : ℕ) → CheckOk j s o → suc (potNext c v (checkAfter j s o x)) ≤ potCheck c s
   unfolding potNext potUpdate potCheck
   check-falls j (Piece k) o x ok = elim (cases-bool (clean (pieceIn o k .len) (pieceIn o k .bits))) [
@@ -146,6 +147,7 @@ module _ (c : ℕ) (v : ℕ → ℕ → Bool) where
   unfolding potNext potUpdate potObtain
   undoing-left j = elim (cases-bool (ltb 0 (j .got))) [ inl e ↦ rw e (omega arith) | inr e ↦ rw e (omega arith) ]
 
+  -- One block is got, or none is left and the oldest retired node is looked for.
   get-falls : (j : Job) (x : ℕ) → suc (potNext c v (afterGet j x)) ≤ fromGet c (j .need - suc (j .got)) + (2 * c + 6)
   unfolding potNext potUpdate potRecycle
   get-falls j zero = omega arith
@@ -154,12 +156,14 @@ module _ (c : ℕ) (v : ℕ → ℕ → Bool) where
       same : (j : Job) → j .need - (j .got + 1) ≡ j .need - suc (j .got)
       same j = omega arith
 
+  -- Obtain.
   obtain-falls : (j : Job) (s : ObtainState) (x : ℕ) → ObtainOk j s → suc (potNext c v (obtainAfter j s x)) ≤ potObtain c j s
   unfolding potNext potObtain
   obtain-falls j Get x ok = get-falls j x
   obtain-falls j Undo x ok = let left : potNext c v (undoing (having (j .got - 1) j)) ≤ 74 - (73 - (j .got - 1)) = undoing-left (having (j .got - 1) j) in omega (arith, ok .0, ok .1)
   obtain-falls j Full x ok = omega arith
 
+  -- Recycle; a scan that begins may find the first processor in the way.
   recycle-falls : (j : Job) (s : RecycleState) (x : ℕ) → 1 ≤ c → suc (potNext c v (recycleAfter j s x)) ≤ potRecycle c j s
   unfolding potNext potUpdate potRecycle potScan
   recycle-falls j RecycleHead x some = elim (cases-bool (eqb (childOf x) 0)) [
@@ -190,6 +194,7 @@ module _ (c : ℕ) (v : ℕ → ℕ → Bool) where
   unfolding potNext potUpdate potBuild
   starting-left j k = elim (cases-bool (eqb (j .root) 0)) [ inl e ↦ rw e (omega arith) | inr e ↦ rw e (omega arith) ]
 
+  -- Build.
   build-falls : (j : Job) (s : BuildState) (o : List ℕ) (x : ℕ) → BuildOk j s o → suc (potNext c v (buildAfter j s o x)) ≤ potBuild c s
   unfolding potNext potUpdate potBuild potPublish
   build-falls j BuildRoot o x ok = omega (arith, starting-left (rooted (childOf x) j) 0)
@@ -209,12 +214,14 @@ module _ (c : ℕ) (v : ℕ → ℕ → Bool) where
                 inl h ↦ rw h (let l = ltb-true _ _ h in omega (arith, starting-left j (k + 1)))
               | inr h ↦ rw h (omega arith) ]) ]) ]
 
+  -- Publish.
   publish-falls : (j : Job) (s : PublishState) (x : ℕ) → suc (potUpdate c v j (publishAfter s x)) ≤ potPublish c s
   unfolding potUpdate potPublish potRetire
   publish-falls j FenceNodes x = omega arith
   publish-falls j SetRoot x = omega arith
   publish-falls j FenceRoot x = omega arith
 
+  -- Retire.
   retire-falls : (j : Job) (s : RetireState) (x : ℕ) → 1 ≤ c → RetireOk j s → suc (potUpdate c v j (retireAfter j s x)) ≤ potRetire c s
   unfolding potUpdate potRetire potScan
   retire-falls j Epoch x some ok = omega arith
@@ -232,6 +239,7 @@ module _ (c : ℕ) (v : ℕ → ℕ → Bool) where
   unfolding potUpdate potFinish
   finishing-left j = elim (cases-bool (ltb (j .used) (j .got))) [ inl e ↦ rw e (omega arith) | inr e ↦ rw e (omega arith) ]
 
+  -- Reclaim.
   reclaim-falls : (j : Job) (s : ReclaimState) (x : ℕ) → suc (potUpdate c v j (reclaimAfter j s x)) ≤ potReclaim s
   unfolding potUpdate potReclaim
   reclaim-falls j (Head grace left) x = elim (cases-bool (eqb (childOf x) 0)) [ inl e ↦ rw e (omega (arith, finishing-left j)) | inr e ↦ rw e (omega arith) ]
@@ -243,6 +251,7 @@ module _ (c : ℕ) (v : ℕ → ℕ → Bool) where
         inl e ↦ rw e (let l = ltb-true _ _ e in omega arith)
       | inr e ↦ rw e (omega (arith, finishing-left j)) ]
 
+  -- Finish.
   finish-falls : (j : Job) (s : FinishState) (x : ℕ) → FinishOk j s → suc (potNext c v (finishAfter j s x)) ≤ potFinish j s
   unfolding potNext potUpdate potFinish
   finish-falls j Unused x ok = elim (cases-bool (ltb (j .used + 1) (j .got))) [ inl e ↦ rw e (omega arith) | inr e ↦ rw e (omega arith) ]
@@ -269,6 +278,7 @@ module _ (c : ℕ) (v : ℕ → ℕ → Bool) where
   update-next (On j s) = refl
   update-next (Told a) = refl
 
+  -- The same of a lookup.
   lookup-next : (r : LookupNext) → pot c v (workOfLookup r) ≡ turnsAfter r
   unfolding pot
   lookup-next (LookOn l) = refl

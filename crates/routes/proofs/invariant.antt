@@ -1,3 +1,4 @@
+pub mod AgesKnown
 pub mod Aging
 pub mod Alike
 pub mod Apart
@@ -17,6 +18,7 @@ pub mod CheckNext
 pub mod CheckReady
 pub mod CheckTurns
 pub mod Explains
+pub mod Falls
 pub mod Fencing
 pub mod FreshBlocks
 pub mod GatherReady
@@ -28,6 +30,7 @@ pub mod HeadRows
 pub mod HeadSights
 pub mod HolderSteps
 pub mod Holding
+pub mod InTime
 pub mod Joining
 pub mod Kinds
 pub mod Local
@@ -57,11 +60,13 @@ pub mod Scans
 pub mod Seen
 pub mod Sights
 pub mod Staging
+pub mod Standing
 pub mod Starts
 pub mod Steps
 pub mod StoreKinds
 pub mod Storing
 pub mod Taking
 pub mod Touching
+pub mod TurnsInTime
 pub mod Unlocks
 pub mod WriterWord

@@ -9,3 +9,4 @@ pub mod Building
 pub mod Retiring
 pub mod Writers
 pub mod Inv
+pub mod Ages

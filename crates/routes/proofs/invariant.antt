@@ -17,6 +17,8 @@ pub mod ChangeTurns
 pub mod CheckNext
 pub mod CheckReady
 pub mod CheckTurns
+pub mod CpuReady
+pub mod CpuTurns
 pub mod Explains
 pub mod Falls
 pub mod Fencing
@@ -28,7 +30,9 @@ pub mod GoingOn
 pub mod HeadCores
 pub mod HeadRows
 pub mod HeadSights
+pub mod HolderReady
 pub mod HolderSteps
+pub mod HolderTurns
 pub mod Holding
 pub mod InTime
 pub mod Joining
@@ -39,10 +43,12 @@ pub mod LockWaits
 pub mod Locks
 pub mod LookupReady
 pub mod Lookups
+pub mod Mains
 pub mod Moment
 pub mod Needs
 pub mod Obtains
 pub mod OwnStays
+pub mod Parts
 pub mod Passing
 pub mod PlainArrives
 pub mod PublishReady
@@ -59,6 +65,7 @@ pub mod Rowing
 pub mod Scans
 pub mod Seen
 pub mod Sights
+pub mod Sizes
 pub mod Staging
 pub mod Standing
 pub mod Starts
@@ -67,6 +74,7 @@ pub mod StoreKinds
 pub mod Storing
 pub mod Taking
 pub mod Touching
+pub mod Turning
 pub mod TurnsInTime
 pub mod Unlocks
 pub mod WriterWord

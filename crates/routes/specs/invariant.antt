@@ -9,4 +9,5 @@ pub mod Building
 pub mod Retiring
 pub mod Writers
 pub mod Inv
+pub mod Known
 pub mod Ages

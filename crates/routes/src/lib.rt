@@ -158,6 +158,45 @@ impl Cpu {
     }
 }
 
+// THE MAIN PROMISE. Whichever processors take turns, whatever they are asked, and whenever stores arrive.
+pub fn turns<W: Memory + World>(w: &mut W, cpus: &mut [Cpu], own: &mut [u64], pieces: &mut [Piece], many: u64)
+    requires starts { ⌜ AtStart (mem (now w)) ⌝ }
+    requires unseen { ⌜ seen (now w) ≡ [] ⌝ }
+    requires lent { ⌜ length (now cpus) ≡ mem (now w) .cpus ⌝ ∗ ⌜ length (now own) ≡ 4096 * mem (now w) .cpus ⌝ ∗ ⌜ length (now pieces) ≡ 8 ⌝ }
+{
+    for i in 0..cpus.len() {
+        cpus[i] = Cpu::new();
+    }
+    let mut t: u64 = 0;
+    while t < many {
+        t += 1;
+        let (p, turn) = w.next(pieces);
+        match turn {
+            Turn::Begin(k) => {
+                let i = p as usize;
+                let c = &mut cpus[i];
+                c.begin(&mut own[i * 4096..i * 4096 + 4096], k, pieces);
+            }
+            Turn::Go => {
+                let i = p as usize;
+                let c = &mut cpus[i];
+                let a = c.step(w, p, &mut own[i * 4096..i * 4096 + 4096]);
+                if !w.turned(p) {
+                    return;
+                }
+                if let Some(x) = a {
+                    if !w.told(p, x) {
+                        return;
+                    }
+                }
+            }
+            Turn::Over => {
+                return;
+            }
+        }
+    }
+}
+
 // A processor's registers are few; what is more is its words.
 pub fn cpu_is_small() -> bool
     ensures { λ r. ⌜ T r ⌝ }

@@ -25,7 +25,7 @@ use Rattle.routes.specs.Routes.{Event, Told, Turned, Over, State, Run, young, 
 use Rattle.routes.specs.counts.Counts.{cnt}
 use Rattle.routes.specs.machine.Acts.{Did}
 use Rattle.routes.specs.machine.Cpus.{workOfLookup, toldOfLookup}
-use Rattle.routes.specs.machine.Lookups.{better as betterFit, afterRoot, afterSlot, lookupAct, lookupAfter}
+use Rattle.routes.specs.machine.Lookups.{afterRoot, afterSlot, lookupAct, lookupAfter}
 use Rattle.routes.specs.late.Steps.{setWord}
 use Rattle.routes.specs.repr.Repr.{Follow}
 use Rattle.routes.specs.run.Steps.{settledAt, turnedAt}
@@ -70,12 +70,6 @@ swap-hits m p w old x late e = ap counted (swap-none p 0 w old x m late ∙ rw (
 trail-none : (b : ℕ) (trail : List ℕ) → trail ≡ [] → 1 ≤ cnt b trail → ⊥
 unfolding cnt
 trail-none b trail e u = omega (arith, u, ap (cnt b) e)
-
--- A slot's route is the better one, as the walk has it.
-better-same : (d : ℕ) (f : Option Fit) (best : Answer) → betterFit d f best ≡ better d f best
-unfolding better
-better-same d None best = refl
-better-same d (Some f) best = refl
 
 -- Nothing is told after ROOT is loaded.
 root-told : (a e b : ℕ) → toldOfLookup (afterRoot a e b) ≡ None
@@ -182,7 +176,7 @@ module _ {m : Mem} {k : Lock} {g : Ghost} {trail : ℕ → List ℕ} {s : State}
   pub look-node : (a x d b : ℕ) (best : Answer) → c .work p ≡ Looking (Node a x d b best) → T (young (s .now' p)) →
       Turn (counted m) t (setCpu p (workOfLookup (lookupAfter (Node a x d b best) (sees p b (nib d a) m))) (c .own p) c) cpus blocks (Turned p ∷ es) p s
   unfolding Does LooksUp announced announcedIn loaded loadedIn cnt
-  look-node a x d b best e y = rw (n, better-same d (fitOf (m .val b (nib d a))) best) (elim (eqb-tells (childOf (m .val b (nib d a))) 0) [
+  look-node a x d b best e y = rw n (elim (eqb-tells (childOf (m .val b (nib d a))) 0) [
         inl z ↦ rw (z .0)
           (let end = follow-end (m .val) a (suc d) best' (f .0) told (subst (λ w. Follow (m .val) a (suc d) w best' (f .0) told) (z .1) (f .3)) in
            go-on (Node a x d b best) (Leave x best') (counted m) (f .0) e (alike-same p s) r y (touch-none m p)
@@ -234,5 +228,5 @@ module _ {m : Mem} {k : Lock} {g : Ghost} {trail : ℕ → List ℕ} {s : State}
   lookup-turn (Epoch a) x n e y d = turn-arrives (d .1) (rw (d .0) (look-epoch a e y))
   lookup-turn (Announce a z) x n e y d = turn-arrives (d .1) (look-announce a z e y)
   lookup-turn (Root a z) x n e y d = rw (root-told a z (childOf x)) (turn-arrives (d .1) (rw (d .0) (look-root a z e y)))
-  lookup-turn (Node a z h b best) x n e y d = rw (slot-told a z h (childOf x) (betterFit h (fitOf x) best)) (turn-arrives (d .1) (rw (d .0) (look-node a z h b best e y)))
+  lookup-turn (Node a z h b best) x n e y d = rw (slot-told a z h (childOf x) (better h (fitOf x) best)) (turn-arrives (d .1) (rw (d .0) (look-node a z h b best e y)))
   lookup-turn (Leave z best) x n e y d = turn-arrives (d .1) (look-leave z best e y)

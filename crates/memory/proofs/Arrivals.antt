@@ -1,0 +1,34 @@
+-- Arriving, fences and stores, of any memory.
+use mathlib.Core.Path.{_≡_, refl, subst, ap, _∙_}
+use mathlib.Core.Bool.{true}
+use mathlib.Core.List.{List, [], _∷_, _++_}
+use Prim.Native.Nat.{ℕ}
+use Rattle.std.proofs.shelf.Tests.{false≢true}
+use Rattle.routes.specs.Memory.{Mem, Store, setAt, arrived, fenced, stored, oldest, Arrives, rest, one}
+use Rattle.routes.proofs.basics.Places.{setAt-hit, setAt-again}
+use Rattle.memory.specs.Rings.{anyLate}
+
+-- What is the same has arrived.
+pub arrives-same : {m n : Mem} → m ≡ n → Arrives m n
+arrives-same {m} e = subst (Arrives m) e (rest m)
+
+-- A fence comes to the same if the oldest store has arrived before it.
+pub fence-oldest : (p : ℕ) (m : Mem) → fenced p (oldest p (m .late p) m) ≡ fenced p m
+unfolding oldest arrived
+fence-oldest p m = go (m .late p) refl
+  where
+    go : (row : List Store) → m .late p ≡ row → fenced p (oldest p row m) ≡ fenced p m
+    go [] e = refl
+    go (s ∷ ss) e = rw (setAt-hit p p ss (m .late) refl, setAt-again p [] ss (m .late), e) refl
+
+-- A store comes to the same if the oldest has arrived before it, or after it.
+pub store-oldest : (p b w x : ℕ) (m : Mem) → anyLate (m .late p) ≡ true → oldest p (stored p b w x m .late p) (stored p b w x m) ≡ stored p b w x (oldest p (m .late p) m)
+unfolding oldest anyLate
+store-oldest p b w x m any = go (m .late p) refl any
+  where
+    go : (row : List Store) → m .late p ≡ row → anyLate row ≡ true → oldest p (stored p b w x m .late p) (stored p b w x m) ≡ stored p b w x (oldest p row m)
+    go [] e a = absurd (false≢true a)
+    go (s ∷ ss) e a =
+        let new : Store = record { block = b; word = w; x = x } in
+        let row : setAt p (m .late p ++ (new ∷ [])) (m .late) p ≡ s ∷ (ss ++ (new ∷ [])) = setAt-hit p p _ (m .late) refl ∙ ap (λ r. r ++ (new ∷ [])) e in
+        rw (row, setAt-hit p p ss (m .late) refl, setAt-again p (ss ++ (new ∷ [])) (m .late p ++ (new ∷ [])) (m .late), setAt-again p (ss ++ (new ∷ [])) ss (m .late)) refl

@@ -1,0 +1,6 @@
+pub mod Places
+pub mod Words
+pub mod Pools
+pub mod Rings
+pub mod Memories
+pub mod Arrivals

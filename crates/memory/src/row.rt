@@ -1,0 +1,16 @@
+// Stores that have not arrived, and the rows in which they wait.
+
+// A store that has not arrived.
+#[derive(Clone, Copy)]
+pub struct LateStore {
+    pub block: u32,
+    pub word: u32,
+    pub x: u64,
+}
+
+// One processor's row: the slot of its oldest store, and how many there are.
+#[derive(Clone, Copy)]
+pub struct Row {
+    pub first: usize,
+    pub many: usize,
+}

@@ -40,9 +40,9 @@ rowOf ls room rs p = rowFrom ls room p (getD rs p noRow .first) (getD rs p noRow
 abbrev pub RowsIn : ℕ → List Row → Type 0
 RowsIn room rs = (p : ℕ) → (getD rs p noRow .first < room) × (getD rs p noRow .many ≤ room)
 
--- every store goes to a word of a block
+-- every store is of 64 bits to a word of a block
 abbrev pub StoresIn : ℕ → List LateStore → Type 0
-StoresIn blocks ls = (i : ℕ) → (getD ls i noStore .block < blocks) × (getD ls i noStore .word < 48)
+StoresIn blocks ls = (i : ℕ) → (getD ls i noStore .block < blocks) × (getD ls i noStore .word < 48) × (getD ls i noStore .x < 18446744073709551616)
 
 -- is there a late store
 unfoldable pub anyLate : List Store → Bool

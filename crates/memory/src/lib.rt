@@ -1,4 +1,5 @@
 // A memory that processors share, in memory: lent slices, with the stores of each processor arriving late.
+mod arrive;
 mod layout;
 mod row;
 mod shared;

@@ -1,4 +1,6 @@
 // Stores that have not arrived, and the rows in which they wait.
+ghost use mathlib.Core.Path.{_≡_};
+ghost use Rattle.memory.specs.Rings.{wrapped};
 
 // A store that has not arrived.
 #[derive(Clone, Copy)]
@@ -13,4 +15,11 @@ pub struct LateStore {
 pub struct Row {
     pub first: usize,
     pub many: usize,
+}
+
+// Slots go round.
+pub fn wrap(room: usize, slot: usize) -> usize
+    ensures { λ r. ⌜ r ≡ wrapped room slot ⌝ }
+{
+    if slot < room { slot } else { slot - room }
 }

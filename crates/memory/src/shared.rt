@@ -29,6 +29,7 @@ pub struct SharedMemory<'a> {
     ghost marked: { length (now held) ≡ layout .blocks },
     ghost stacked: { length (now free) ≡ layout .blocks },
     ghost rowed: { length (now late) ≡ 16 * layout .room },
+    ghost sixteen: { length rows ≡ 16 },
     ghost unheld: { StackFree (layout .blocks) (now held) (now free) «free_count» },
     ghost apart: { StackApart (now free) «free_count» },
     ghost counted: { AllCounted (layout .blocks) (now held) «free_count» },

@@ -1,11 +1,15 @@
 -- Arriving, fences and stores, of any memory.
-use mathlib.Core.Path.{_≡_, refl, subst, ap, _∙_}
-use mathlib.Core.Bool.{true}
+use mathlib.Core.Path.{_≡_, refl, sym, subst, ap, _∙_}
+use mathlib.Core.Bool.{true, false}
 use mathlib.Core.List.{List, [], _∷_, _++_}
-use Prim.Native.Nat.{ℕ}
+use Prim.Native.Nat.{ℕ, _+_}
+use native.Mathlib.Numerals.{add-one}
+use lib.ListN.{length}
 use Rattle.std.proofs.shelf.Tests.{false≢true}
 use Rattle.routes.specs.Memory.{Mem, Store, setAt, arrived, fenced, stored, oldest, Arrives, rest, one}
 use Rattle.routes.proofs.basics.Places.{setAt-hit, setAt-again}
+use Rattle.routes.proofs.late.Arriving.{oldest-none}
+use Rattle.routes.proofs.late.Fence.{fence-none}
 use Rattle.memory.specs.Rings.{anyLate}
 
 -- What is the same has arrived.
@@ -20,6 +24,29 @@ fence-oldest p m = go (m .late p) refl
     go : (row : List Store) → m .late p ≡ row → fenced p (oldest p row m) ≡ fenced p m
     go [] e = refl
     go (s ∷ ss) e = rw (setAt-hit p p ss (m .late) refl, setAt-again p [] ss (m .late), e) refl
+
+-- An empty row is known by that.
+any-none : (ss : List Store) → anyLate ss ≡ false → ss ≡ []
+unfolding anyLate
+any-none [] e = refl
+any-none (s ∷ ss) e = absurd (false≢true (sym e))
+
+-- The oldest store arrives, and a fence is still to come.
+pub fence-step : (p : ℕ) (m n : Mem) → n ≡ oldest p (m .late p) m → fenced p n ≡ fenced p m
+fence-step p m n e = ap (fenced p) e ∙ fence-oldest p m
+
+-- None is left: the fence is over.
+pub fence-over : (p : ℕ) (m n : Mem) → n ≡ oldest p (m .late p) m → anyLate (m .late p) ≡ false → n ≡ fenced p m
+fence-over p m n e none = let empty = any-none (m .late p) none in e ∙ (oldest-none p m empty ∙ sym (fence-none p m empty))
+
+-- When the oldest has arrived, the row is shorter by one.
+pub oldest-shorter : (p : ℕ) (m n : Mem) → n ≡ oldest p (m .late p) m → anyLate (m .late p) ≡ true → length (n .late p) + 1 ≡ length (m .late p)
+unfolding oldest anyLate
+oldest-shorter p m n e any = rw e (go (m .late p) refl any)
+  where
+    go : (row : List Store) → m .late p ≡ row → anyLate row ≡ true → length (oldest p row m .late p) + 1 ≡ length (m .late p)
+    go [] q a = absurd (false≢true a)
+    go (s ∷ ss) q a = rw (setAt-hit p p ss (m .late) refl, q) (add-one (length ss))
 
 -- A store comes to the same if the oldest has arrived before it, or after it.
 pub store-oldest : (p b w x : ℕ) (m : Mem) → anyLate (m .late p) ≡ true → oldest p (stored p b w x m .late p) (stored p b w x m) ≡ stored p b w x (oldest p (m .late p) m)

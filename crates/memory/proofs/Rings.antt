@@ -10,12 +10,12 @@ use lib.Dec.{ltb}
 use lib.ListN.{length, getD, set}
 use lib.Seq.{getD-set-same, getD-set-other}
 use Rattle.std.proofs.shelf.Ways.{tells, eqb-tells}
-use Rattle.std.proofs.shelf.Tests.{cases-lt, lt-ltb}
-use Rattle.std.proofs.shelf.Lists.{getD-past}
+use Rattle.std.proofs.shelf.Tests.{cases-lt, cases-eq, lt-ltb}
+use Rattle.std.proofs.shelf.Lists.{getD-past, length-push}
 use Rattle.routes.specs.Memory.{Store, setAt}
 use Rattle.memory.specs.declared.row.LateStore.{LateStore}
 use Rattle.memory.specs.declared.row.Row.{Row}
-use Rattle.memory.specs.Rings.{noStore, noRow, storeOf, wrapped, placeOf, rowFrom, rowOf, anyLate}
+use Rattle.memory.specs.Rings.{noStore, noRow, storeOf, wrapped, placeOf, rowFrom, rowOf, anyLate, RowsIn, StoresIn}
 
 -- A place of a row is one of the list.
 pub place-in : (room p first k : ℕ) → p < 16 → first < room → k < room → placeOf room p first k < 16 * room
@@ -77,6 +77,16 @@ row-any ls room p first (suc n) = any-end (rowFrom ls room p first n) _ ∙ sym 
     any-end [] s = refl
     any-end (t ∷ ss) s = refl
 
+-- A row is as long as its count.
+pub row-length : (ls : List LateStore) (room p first n : ℕ) → length (rowFrom ls room p first n) ≡ n
+unfolding rowFrom
+row-length ls room p first zero = refl
+row-length ls room p first (suc n) = length-push (rowFrom ls room p first n) _ ∙ rw (row-length ls room p first n) (add-one n)
+
+-- So a row that is shorter than its room has room.
+pub row-short : (ls : List LateStore) (room : ℕ) (rs : List Row) (p : ℕ) → length (rowOf ls room rs p) < room → getD rs p noRow .many < room
+row-short ls room rs p h = rw (row-length ls room p (getD rs p noRow .first) (getD rs p noRow .many)) at h
+
 -- One row is written.
 pub rows-set : (ls : List LateStore) (room : ℕ) (rs : List Row) (p : ℕ) (r : Row) → p < length rs → rowOf ls room (set rs p r) ≡ setAt p (rowFrom ls room p (r .first) (r .many)) (rowOf ls room rs)
 rows-set ls room rs p r h = fun-ext (λ q. elim (eqb-tells q p) [
@@ -96,3 +106,15 @@ pub rows-push : (ls : List LateStore) (e : LateStore) (room : ℕ) (rs : List Ro
 rows-push ls e room rs p first many long few h f r = fun-ext (λ q. elim (eqb-tells q p) [
       inl t ↦ rw (t .0, t .1, getD-set-same rs p (record { first = first; many = many + 1 }) noRow (omega arith)) (row-push ls e room p first many long h f r)
     | inr t ↦ rw (t .0, getD-set-other rs p q (record { first = first; many = many + 1 }) noRow (t .1)) (row-others ls e room rs p first many q few h (t .1)) ])
+
+-- Every row is within its room, and one that is within is written.
+pub rows-in-set : (room : ℕ) (rs : List Row) (p : ℕ) (r : Row) → RowsIn room rs → p < length rs → r .first < room → r .many ≤ room → RowsIn room (set rs p r)
+rows-in-set room rs p r all h f fits q = elim (cases-eq q p) [
+      inl e ↦ rw (e, getD-set-same rs p r noRow h) (f, fits)
+    | inr e ↦ rw (getD-set-other rs p q r noRow e) (all q) ]
+
+-- Every store goes to a word of a block, and one that does is written.
+pub stores-in-set : (blocks : ℕ) (ls : List LateStore) (at : ℕ) (s : LateStore) → StoresIn blocks ls → at < length ls → s .block < blocks → s .word < 48 → s .x < 18446744073709551616 → StoresIn blocks (set ls at s)
+stores-in-set blocks ls at s all h b w x i = elim (cases-eq i at) [
+      inl e ↦ rw (e, getD-set-same ls at s noStore h) (b, w, x)
+    | inr e ↦ rw (getD-set-other ls at i s noStore e) (all i) ]

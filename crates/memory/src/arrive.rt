@@ -1,11 +1,15 @@
 // Stores arrive.
 ghost use mathlib.Core.Path.{_≡_};
-ghost use Rattle.routes.specs.Memory.{oldest, fenced};
+ghost use Prim.Native.Nat.{_<_};
+ghost use lib.ListN.{length};
+ghost use Rattle.routes.specs.Memory.{oldest, fenced, stored};
 ghost use Rattle.memory.specs.Words.{wordAt};
 ghost use Rattle.memory.specs.Rings.{anyLate};
 ghost use Rattle.memory.specs.Memories.{memOf};
 
+use crate::row::LateStore;
 use crate::row::Row;
+use crate::row::place_of;
 use crate::row::wrap;
 use crate::shared::SharedMemory;
 
@@ -21,6 +25,7 @@ impl SharedMemory<'_> {
     pub fn arrive(&mut self, p: u32) -> bool
         ensures arrives { λ _. ⌜ memOf (now (self .exit)) ≡ oldest p (memOf (now (self .entry)) .late p) (memOf (now (self .entry))) ⌝ }
         ensures told { λ r. ⌜ r ≡ anyLate (memOf (now (self .entry)) .late p) ⌝ }
+        ensures roomy { λ _. ⌜ now (self .exit) .layout .room ≡ now (self .entry) .layout .room ⌝ }
     {
         let i = p as usize;
         if i >= 16 {
@@ -34,5 +39,26 @@ impl SharedMemory<'_> {
         self.words[word_at(store.block, store.word)] = store.x;
         self.rows[i] = Row { first: wrap(self.layout.room, row.first + 1), many: row.many - 1 };
         true
+    }
+
+    // All stores of a processor arrive.
+    pub(crate) fn arrive_all(&mut self, p: u32)
+        ensures { λ _. ⌜ memOf (now (self .exit)) ≡ fenced p (memOf (now (self .entry))) ⌝ }
+    {
+        while self.arrive(p) {}
+    }
+
+    // A store is put behind the last of a row that has room for it.
+    pub(crate) fn push(&mut self, p: u32, block: u32, word: u32, x: u64)
+        requires whose { ⌜ p < 16 ⌝ }
+        requires target { ⌜ block < now self .layout .blocks ⌝ ∗ ⌜ word < 48 ⌝ }
+        requires room { ⌜ length (memOf (now self) .late p) < now self .layout .room ⌝ }
+        ensures { λ _. ⌜ memOf (now (self .exit)) ≡ stored p block word x (memOf (now (self .entry))) ⌝ }
+    {
+        let i = p as usize;
+        let row = self.rows[i];
+        let at = place_of(self.layout.room, i, row.first, row.many);
+        self.late[at] = LateStore { block, word, x };
+        self.rows[i] = Row { first: row.first, many: row.many + 1 };
     }
 }

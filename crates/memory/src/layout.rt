@@ -1,5 +1,5 @@
 // How many processors and blocks a memory has, and how long its rows are.
-ghost use Prim.Native.Nat.{_<_, _≤_};
+ghost use Prim.Native.Nat.{_*_, _<_, _≤_};
 
 // Why slices cannot be a memory: its processors, its blocks, or the length of one of the slices is wrong.
 #[derive(Clone, Copy)]
@@ -29,4 +29,5 @@ pub struct Layout {
     ghost least: { 256 ≤ blocks },
     ghost most: { blocks ≤ 1048576 },
     ghost roomy: { 0 < room },
+    ghost slots: { 16 * room < 18446744073709551616 },
 }

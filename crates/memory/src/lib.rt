@@ -1,9 +1,12 @@
 // A memory that processors share, in memory: lent slices, with the stores of each processor arriving late.
+mod access;
 mod arrive;
+mod guard;
 mod layout;
 mod row;
 mod shared;
 
+pub use access::InSlices;
 pub use layout::Layout;
 pub use layout::MemoryError;
 pub use row::LateStore;

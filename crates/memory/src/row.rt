@@ -1,6 +1,9 @@
 // Stores that have not arrived, and the rows in which they wait.
 ghost use mathlib.Core.Path.{_≡_};
-ghost use Rattle.memory.specs.Rings.{wrapped};
+ghost use Prim.Native.Nat.{_*_, _<_, _≤_};
+ghost use lib.ListN.{length};
+ghost use Rattle.routes.specs.Memory.{lastLate, noneTo};
+ghost use Rattle.memory.specs.Rings.{wrapped, placeOf, rowFrom};
 
 // A store that has not arrived.
 #[derive(Clone, Copy)]
@@ -22,4 +25,40 @@ pub fn wrap(room: usize, slot: usize) -> usize
     ensures { λ r. ⌜ r ≡ wrapped room slot ⌝ }
 {
     if slot < room { slot } else { slot - room }
+}
+
+// Where the store stands that is k behind the first of processor p's row.
+pub fn place_of(room: usize, p: usize, first: usize, k: usize) -> usize
+    requires { ⌜ p < 16 ⌝ ∗ ⌜ first < room ⌝ ∗ ⌜ k < room ⌝ ∗ ⌜ 16 * room < 18446744073709551616 ⌝ }
+    ensures { λ r. ⌜ r ≡ placeOf room p first k ⌝ }
+{
+    16 * wrap(room, first + k) + p
+}
+
+// What processor p sees in a word: its newest store to it, or what is there.
+pub fn newest(late: &[LateStore], room: usize, p: usize, row: Row, block: u32, word: u32, old: u64) -> u64
+    requires { ⌜ length (now late) ≡ 16 * room ⌝ ∗ ⌜ p < 16 ⌝ ∗ ⌜ row .first < room ⌝ ∗ ⌜ row .many ≤ room ⌝ }
+    ensures { λ r. ⌜ r ≡ lastLate block word (rowFrom (now (late .entry)) room p (row .first) (row .many)) old ⌝ }
+{
+    for k in (0..row.many).rev() {
+        let store = late[place_of(room, p, row.first, k)];
+        if block == store.block && word == store.word {
+            return store.x;
+        }
+    }
+    old
+}
+
+// Does no store of processor p's row go to a block?
+pub fn none_to(late: &[LateStore], room: usize, p: usize, row: Row, block: u32) -> bool
+    requires { ⌜ length (now late) ≡ 16 * room ⌝ ∗ ⌜ p < 16 ⌝ ∗ ⌜ row .first < room ⌝ ∗ ⌜ row .many ≤ room ⌝ }
+    ensures { λ r. ⌜ r ≡ noneTo block (rowFrom (now (late .entry)) room p (row .first) (row .many)) ⌝ }
+{
+    for k in 0..row.many {
+        let store = late[place_of(room, p, row.first, k)];
+        if block == store.block {
+            return false;
+        }
+    }
+    true
 }

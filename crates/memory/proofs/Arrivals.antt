@@ -5,8 +5,8 @@ use mathlib.Core.List.{List, [], _∷_, _++_}
 use Prim.Native.Nat.{ℕ, _+_}
 use native.Mathlib.Numerals.{add-one}
 use lib.ListN.{length}
-use Rattle.std.proofs.shelf.Tests.{false≢true}
-use Rattle.routes.specs.Memory.{Mem, Store, setAt, arrived, fenced, stored, oldest, Arrives, rest, one}
+use Rattle.std.proofs.shelf.Tests.{false≢true, eq-eqb, ne-eqb}
+use Rattle.routes.specs.Memory.{Mem, Store, setAt, setVal, with', counted, arrived, fenced, swapped, stored, oldest, Arrives, rest, one}
 use Rattle.routes.proofs.basics.Places.{setAt-hit, setAt-again}
 use Rattle.routes.proofs.late.Arriving.{oldest-none}
 use Rattle.routes.proofs.late.Fence.{fence-none}
@@ -59,3 +59,19 @@ store-oldest p b w x m any = go (m .late p) refl any
         let new : Store = record { block = b; word = w; x = x } in
         let row : setAt p (m .late p ++ (new ∷ [])) (m .late) p ≡ s ∷ (ss ++ (new ∷ [])) = setAt-hit p p _ (m .late) refl ∙ ap (λ r. r ++ (new ∷ [])) e in
         rw (row, setAt-hit p p ss (m .late) refl, setAt-again p (ss ++ (new ∷ [])) (m .late p ++ (new ∷ [])) (m .late), setAt-again p (ss ++ (new ∷ [])) ss (m .late)) refl
+
+-- A store after the oldest has arrived is the store, and then the arriving.
+pub store-later : (p : ℕ) (m n : Mem) → n ≡ oldest p (m .late p) m → anyLate (m .late p) ≡ true → (b w x : ℕ) → Arrives (stored p b w x m) (stored p b w x n)
+store-later p m n e any b w x = one p (arrives-same (store-oldest p b w x m any ∙ ap (stored p b w x) (sym e)))
+
+-- A swap finds what it looks for, and the word is new.
+pub swap-hit : (p b w old new : ℕ) (m k n : Mem) → k ≡ fenced p (counted m) → k .val b w ≡ old → n ≡ with' (setVal b w new (k .val)) (k .held) (k .late) k → n ≡ counted (swapped p b w old new m)
+swap-hit p b w old new m k n e hit set =
+    let found : fenced p m .val b w ≡ old = ap (λ (j : Mem). j .val b w) (sym e) ∙ hit in
+    rw (eq-eqb (fenced p m .val b w) old found) (set ∙ ap (λ (j : Mem). with' (setVal b w new (j .val)) (j .held) (j .late) j) e)
+
+-- It does not, and nothing more is done.
+pub swap-miss : (p b w old new : ℕ) (m k : Mem) → k ≡ fenced p (counted m) → (k .val b w ≡ old → ⊥) → k ≡ counted (swapped p b w old new m)
+swap-miss p b w old new m k e miss =
+    let other : fenced p m .val b w ≡ old → ⊥ = λ f. miss (ap (λ (j : Mem). j .val b w) e ∙ f) in
+    rw (ne-eqb (fenced p m .val b w) old other) e

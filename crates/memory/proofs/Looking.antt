@@ -3,16 +3,18 @@ use mathlib.Core.Path.{_≡_, refl, sym, ap, _∙_}
 use mathlib.Core.Bool.{Bool, true, false, cond, _&&_, not}
 use mathlib.Core.Logic.{inl, inr}
 use mathlib.Core.List.{List, [], _∷_, _++_}
-use Prim.Native.Nat.{ℕ, zero, suc, _+_, _-_, _<_}
+use Prim.Native.Nat.{ℕ, zero, suc, _+_, _-_, _<_, _≤_}
 use native.Mathlib.Numerals.{add-one}
 use native.Mathlib.Omega.{arith}
-use lib.Dec.{eqb}
-use lib.ListN.{getD}
+use lib.Dec.{eqb, T}
+use lib.ListN.{length, getD}
 use Rattle.std.proofs.shelf.Ways.{tells}
-use Rattle.std.proofs.shelf.Tests.{cases-eq, eq-eqb, ne-eqb, and-left, and-right, and-from}
+use Rattle.std.proofs.shelf.Tests.{cases-eq, cases-lt, eq-eqb, ne-eqb, and-left, and-right, and-from}
 use Rattle.routes.specs.Memory.{Store, lastLate, noneTo}
 use Rattle.memory.specs.declared.row.LateStore.{LateStore}
-use Rattle.memory.specs.Rings.{noStore, storeOf, placeOf, rowFrom}
+use Rattle.memory.specs.declared.row.Row.{Row}
+use Rattle.memory.specs.Rings.{noStore, storeOf, placeOf, rowFrom, rowOf}
+use Rattle.memory.proofs.Rings.{row-past}
 
 -- The store at the end of a row is the newest.
 last-end : (b w : ℕ) (ss : List Store) (s : Store) (old : ℕ) → lastLate b w (ss ++ (s ∷ [])) old ≡ cond (eqb b (s .block) && eqb w (s .word)) (s .x) (lastLate b w ss old)
@@ -61,3 +63,10 @@ module _ (ls : List LateStore) (room p first : ℕ) where
   none-at k (suc n) b at place h e = none-end b (rowFrom ls room p first n) (storeOf (getD ls (placeOf room p first n) noStore)) ∙ elim (cases-eq k n) [
         inl s ↦ and-right _ _ (ap not (eq-eqb b (getD ls (placeOf room p first n) noStore .block) (e ∙ ap (λ j. getD ls j noStore .block) (place ∙ ap (placeOf room p first) s))))
       | inr s ↦ and-left _ _ (none-at k n b at place (omega arith) e) ]
+
+-- If no store of the 16 rows goes to a block, no store of any does.
+pub none-all : (ls : List LateStore) (room : ℕ) (rs : List Row) (b : ℕ) → length rs ≡ 16 → ((q : ℕ) → q < 16 → noneTo b (rowOf ls room rs q) ≡ true) → (q : ℕ) → T (noneTo b (rowOf ls room rs q))
+unfolding noneTo
+none-all ls room rs b few none q = elim (cases-lt q 16) [
+      inl h ↦ rw (none q h) tt
+    | inr h ↦ rw (row-past ls room rs q (omega arith)) tt ]

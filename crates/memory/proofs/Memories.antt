@@ -26,8 +26,8 @@ module _ (cpus blocks room : ℕ) (ws : List ℕ) (hs : List Bool) (ls : List La
   here = memAt cpus blocks room ws hs ls rs left who
 
   -- One word is written.
-  pub word-set : (b w x : ℕ) → w < 48 → wordAt b w < length ws → x < 18446744073709551616 → memAt cpus blocks room (set ws (wordAt b w) x) hs ls rs left who ≡ with' (setVal b w x (here .val)) (here .held) (here .late) here
-  word-set b w x h inside fits = mem-same here (val-set ws b w x h inside fits) refl refl
+  pub word-set : (b w x at : ℕ) → at ≡ wordAt b w → w < 48 → at < length ws → x < 18446744073709551616 → memAt cpus blocks room (set ws at x) hs ls rs left who ≡ with' (setVal b w x (here .val)) (here .held) (here .late) here
+  word-set b w x at place h inside fits = rw place (mem-same here (val-set ws b w x h (rw place at inside) fits) refl refl)
 
   -- One mark is written.
   pub mark-set : (b : ℕ) (y : Bool) → b < length hs → memAt cpus blocks room ws (set hs b y) ls rs left who ≡ with' (here .val) (setAt b y (here .held)) (here .late) here

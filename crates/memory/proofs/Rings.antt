@@ -87,6 +87,15 @@ row-length ls room p first (suc n) = length-push (rowFrom ls room p first n) _ �
 pub row-short : (ls : List LateStore) (room : ℕ) (rs : List Row) (p : ℕ) → length (rowOf ls room rs p) < room → getD rs p noRow .many < room
 row-short ls room rs p h = rw (row-length ls room p (getD rs p noRow .first) (getD rs p noRow .many)) at h
 
+-- And the other way round.
+pub row-roomy : (ls : List LateStore) (room : ℕ) (rs : List Row) (p : ℕ) → getD rs p noRow .many < room → length (rowOf ls room rs p) < room
+row-roomy ls room rs p h = rw (row-length ls room p (getD rs p noRow .first) (getD rs p noRow .many)) h
+
+-- Who is none of the 16 has no row.
+pub row-past : (ls : List LateStore) (room : ℕ) (rs : List Row) (p : ℕ) → length rs ≤ p → rowOf ls room rs p ≡ []
+unfolding rowFrom
+row-past ls room rs p h = rw (getD-past rs p noRow h) refl
+
 -- One row is written.
 pub rows-set : (ls : List LateStore) (room : ℕ) (rs : List Row) (p : ℕ) (r : Row) → p < length rs → rowOf ls room (set rs p r) ≡ setAt p (rowFrom ls room p (r .first) (r .many)) (rowOf ls room rs)
 rows-set ls room rs p r h = fun-ext (λ q. elim (eqb-tells q p) [

@@ -18,8 +18,8 @@ pub val-small : (ws : List ℕ) (b w : ℕ) → valOf ws b w < 18446744073709551
 val-small ws b w = grind (arith, tells)
 
 -- A word that fits is read as it stands.
-pub val-read : (ws : List ℕ) (b w : ℕ) → w < 48 → getD ws (wordAt b w) 0 < 18446744073709551616 → valOf ws b w ≡ getD ws (wordAt b w) 0
-val-read ws b w h fits = rw (lt-ltb w 48 h) (omega arith)
+pub val-read : (ws : List ℕ) (b w at : ℕ) → at ≡ wordAt b w → w < 48 → getD ws at 0 < 18446744073709551616 → valOf ws b w ≡ getD ws at 0
+val-read ws b w at place h fits = rw (← place, lt-ltb w 48 h) (omega arith)
 
 -- Two words stand at one place only if they are the same.
 same-place : (b w c v : ℕ) → w < 48 → v < 48 → wordAt c v ≡ wordAt b w → (eqb c b && eqb v w) ≡ true

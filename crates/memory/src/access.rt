@@ -40,12 +40,9 @@ pub impl Memory for SharedMemory<'_> as InSlices {
         self.seen_by(p, block, word)
     }
 
-    // A row that is full lets its oldest store arrive.
     fn store(&mut self, p: u32, block: u32, word: u32, x: u64) {
         self.left -= 1;
-        if self.rows[p as usize].many == self.layout.room {
-            self.arrive(p);
-        }
+        self.make_room(p);
         self.push(p, block, word, x);
     }
 

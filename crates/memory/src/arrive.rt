@@ -1,8 +1,8 @@
 // Stores arrive.
 ghost use mathlib.Core.Path.{_≡_};
-ghost use Prim.Native.Nat.{_<_};
+ghost use Prim.Native.Nat.{ℕ, _<_};
 ghost use lib.ListN.{length};
-ghost use Rattle.routes.specs.Memory.{oldest, fenced, stored};
+ghost use Rattle.routes.specs.Memory.{Arrives, oldest, fenced, stored};
 ghost use Rattle.memory.specs.Words.{wordAt};
 ghost use Rattle.memory.specs.Rings.{anyLate};
 ghost use Rattle.memory.specs.Memories.{memOf};
@@ -25,7 +25,7 @@ impl SharedMemory<'_> {
     pub fn arrive(&mut self, p: u32) -> bool
         ensures arrives { λ _. ⌜ memOf (now (self .exit)) ≡ oldest p (memOf (now (self .entry)) .late p) (memOf (now (self .entry))) ⌝ }
         ensures told { λ r. ⌜ r ≡ anyLate (memOf (now (self .entry)) .late p) ⌝ }
-        ensures roomy { λ _. ⌜ now (self .exit) .layout .room ≡ now (self .entry) .layout .room ⌝ }
+        ensures same { λ _. ⌜ now (self .exit) .layout ≡ now (self .entry) .layout ⌝ }
     {
         let i = p as usize;
         if i >= 16 {
@@ -46,6 +46,18 @@ impl SharedMemory<'_> {
         ensures { λ _. ⌜ memOf (now (self .exit)) ≡ fenced p (memOf (now (self .entry))) ⌝ }
     {
         while self.arrive(p) {}
+    }
+
+    // A row that is full lets its oldest store arrive.
+    pub(crate) fn make_room(&mut self, p: u32)
+        requires { ⌜ p < 16 ⌝ }
+        ensures later { λ _. ⌜ ((b w x : ℕ) → Arrives (stored p b w x (memOf (now (self .entry)))) (stored p b w x (memOf (now (self .exit))))) ⌝ }
+        ensures room { λ _. ⌜ length (memOf (now (self .exit)) .late p) < now (self .exit) .layout .room ⌝ }
+        ensures same { λ _. ⌜ now (self .exit) .layout .blocks ≡ now (self .entry) .layout .blocks ⌝ }
+    {
+        if self.rows[p as usize].many == self.layout.room {
+            self.arrive(p);
+        }
     }
 
     // A store is put behind the last of a row that has room for it.

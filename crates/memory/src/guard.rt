@@ -1,12 +1,12 @@
 // Whose turn it is, and whether what a processor would ask may be asked.
 ghost use mathlib.Core.Path.{_≡_};
-ghost use Prim.Native.Nat.{ℕ, _<_};
+ghost use Prim.Native.Nat.{_<_};
 ghost use lib.Dec.{T};
-ghost use Rattle.routes.specs.Memory.{MayTouch, MayRelease, noneTo, allowed};
+ghost use Rattle.routes.specs.Memory.{MayTouch, MayRelease, allowed};
 ghost use Rattle.memory.specs.Pools.{heldCount};
 ghost use Rattle.memory.specs.Memories.{MayAsk, memOf};
 
-use crate::row::none_to;
+use crate::row::none_in_rows;
 use crate::shared::SharedMemory;
 
 impl SharedMemory<'_> {
@@ -41,24 +41,11 @@ impl SharedMemory<'_> {
         self.may_ask(p) && block < self.layout.blocks && self.held[block as usize] && word < 48
     }
 
-    // Is no store to a block under way?
-    fn none_under_way(&self, block: u32) -> bool
-        ensures so { λ r. ⌜ (T r → (q : ℕ) → T (noneTo block (memOf (now (self .entry)) .late q))) ⌝ }
-        ensures else_not { λ r. ⌜ (((q : ℕ) → T (noneTo block (memOf (now (self .entry)) .late q))) → T r) ⌝ }
-    {
-        for i in 0..16 {
-            if !none_to(self.late, self.layout.room, i, self.rows[i], block) {
-                return false;
-            }
-        }
-        true
-    }
-
     // May it give a block back?
     pub fn may_release(&self, p: u32, block: u32) -> bool
         ensures so { λ r. ⌜ (T r → MayRelease (memOf (now (self .entry))) p block) ⌝ }
         ensures else_not { λ r. ⌜ (MayRelease (memOf (now (self .entry))) p block → T r) ⌝ }
     {
-        0 < block && self.may_touch(p, block, 0) && self.none_under_way(block)
+        0 < block && self.may_touch(p, block, 0) && none_in_rows(self.late, self.layout.room, &self.rows, block)
     }
 }

@@ -5,3 +5,4 @@ pub mod Rings
 pub mod Looking
 pub mod Memories
 pub mod Arrivals
+pub mod Starts

@@ -26,3 +26,9 @@ pub record LentFor (l : Layout) (words marks stack late : ℕ) : Type 0 where
   pub marked : marks ≡ l .blocks
   pub stacked : stack ≡ l .blocks
   pub rowed : late ≡ 16 * l .room
+
+-- a layout is of so many processors and blocks, in slices of these lengths
+pub record LaidOut (cpus blocks words marks stack late : ℕ) (l : Layout) : Type 0 where
+  pub processors : l .cpus ≡ cpus
+  pub size : l .blocks ≡ blocks
+  pub lent : LentFor l words marks stack late

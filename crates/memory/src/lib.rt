@@ -5,6 +5,7 @@ mod guard;
 mod layout;
 mod row;
 mod shared;
+mod start;
 
 pub use access::InSlices;
 pub use layout::Layout;

@@ -16,6 +16,10 @@ use Rattle.memory.specs.Rings.{anyLate}
 pub arrives-same : {m n : Mem} → m ≡ n → Arrives m n
 arrives-same {m} e = subst (Arrives m) e (rest m)
 
+-- What the oldest store of a row makes of a memory has arrived.
+pub arrives-oldest : (p : ℕ) {m n : Mem} → n ≡ oldest p (m .late p) m → Arrives m n
+arrives-oldest p e = one p (arrives-same (sym e))
+
 -- A fence comes to the same if the oldest store has arrived before it.
 pub fence-oldest : (p : ℕ) (m : Mem) → fenced p (oldest p (m .late p) m) ≡ fenced p m
 unfolding oldest arrived

@@ -1,7 +1,7 @@
 -- What a write to one of the slices is in the memory that they stand for.
 use mathlib.Core.Path.{_≡_, refl, sym, _∙_}
 use mathlib.Core.Bool.{Bool, true, false}
-use mathlib.Core.List.{List, []}
+use mathlib.Core.List.{List}
 use Prim.Native.Nat.{ℕ, _+_, _-_, _*_, _<_, _≤_}
 use native.Mathlib.Omega.{arith}
 use lib.ListN.{length, getD, set}
@@ -9,9 +9,8 @@ use Rattle.std.proofs.shelf.Tests.{lt-ltb, le-ltb}
 use Rattle.routes.specs.Memory.{Mem, Store, with', setVal, setAt, stored, oldest}
 use Rattle.memory.specs.declared.row.LateStore.{LateStore}
 use Rattle.memory.specs.declared.row.Row.{Row}
-use Rattle.memory.specs.Words.{wordAt, valOf}
-use Rattle.memory.specs.Pools.{heldOf}
-use Rattle.memory.specs.Rings.{noStore, noRow, storeOf, wrapped, placeOf, rowFrom, rowOf, anyLate}
+use Rattle.memory.specs.Words.{wordAt}
+use Rattle.memory.specs.Rings.{noStore, noRow, wrapped, placeOf, rowFrom, rowOf, anyLate}
 use Rattle.memory.specs.Memories.{memAt}
 use Rattle.memory.proofs.Words.{val-set}
 use Rattle.memory.proofs.Pools.{held-set}

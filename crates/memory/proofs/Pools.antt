@@ -1,17 +1,16 @@
 -- The pool: a block is taken from the top of the stack, or put back there.
 use mathlib.Core.Path.{_≡_, sym, ap, subst, _∙_, fun-ext}
-use mathlib.Core.Bool.{Bool, true, false, cond}
+use mathlib.Core.Bool.{Bool, true, false}
 use mathlib.Core.Logic.{inl, inr, _≢_}
 use mathlib.Core.List.{List}
 use Prim.Native.Nat.{ℕ, _+_, _-_, _<_, _≤_}
 use native.Mathlib.Omega.{arith}
-use lib.Dec.{eqb}
 use lib.ListN.{length, getD, set}
 use lib.Seq.{getD-set-same, getD-set-other}
 use Rattle.std.proofs.shelf.Tests.{cases-eq, cases-bool, both-ways}
 use Rattle.std.proofs.shelf.Ways.{tells}
 use Rattle.routes.specs.Memory.{setAt}
-use Rattle.routes.specs.counts.Counts.{sum, bit}
+use Rattle.routes.specs.counts.Counts.{bit}
 use Rattle.routes.proofs.counts.Sums.{sum-set, sum-le, sum-ones, sum-at}
 use Rattle.memory.specs.Pools.{heldOf, heldCount, StackFree, StackApart, AllCounted}
 use Rattle.memory.proofs.Places.{set-at}

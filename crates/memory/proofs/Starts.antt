@@ -1,16 +1,16 @@
 -- A memory as it starts.
-use mathlib.Core.Path.{_≡_, refl, sym, ap, subst, _∙_}
-use mathlib.Core.Bool.{Bool, true, false, cond}
+use mathlib.Core.Path.{_≡_, refl, ap, _∙_}
+use mathlib.Core.Bool.{Bool}
 use mathlib.Core.Logic.{inl, inr}
 use mathlib.Core.List.{List, []}
-use Prim.Native.Nat.{ℕ, _+_, _-_, _*_, _%_, _<_, _≤_}
+use Prim.Native.Nat.{ℕ, _+_, _-_, _*_, _<_}
 use native.Mathlib.Omega.{arith}
-use lib.Dec.{eqb, ltb}
-use lib.ListN.{length, getD, replicate}
+use lib.Dec.{eqb}
+use lib.ListN.{getD, replicate}
 use Rattle.std.proofs.shelf.Lists.{getD-replicate, getD-past}
 use Rattle.std.proofs.shelf.Tests.{cases-lt, ne-eqb}
 use Rattle.std.proofs.shelf.Ways.{tells}
-use Rattle.routes.specs.counts.Counts.{sum, bit}
+use Rattle.routes.specs.counts.Counts.{bit}
 use Rattle.routes.proofs.counts.Sums.{sum-same, sum-hit, sum-at}
 use Rattle.memory.specs.declared.row.LateStore.{LateStore}
 use Rattle.memory.specs.Words.{valOf}

@@ -11,7 +11,6 @@ use Rattle.memory.specs.Pools.{heldOf}
 use Rattle.memory.specs.Rings.{rowOf}
 use Rattle.memory.specs.declared.row.LateStore.{LateStore}
 use Rattle.memory.specs.declared.row.Row.{Row}
-use Rattle.memory.specs.declared.layout.Layout.{Layout}
 use Rattle.memory.specs.declared.shared.SharedMemory.{SharedMemory}
 
 -- the memory with these words, these marks and these rows of late stores

@@ -1,5 +1,4 @@
 use mathlib.Core.Path.{_≡_, refl, sym}
-use Prim.Native.Nat.{ℕ}
 use native.Mathlib.Omega.{arith}
 use Rattle.routes.specs.Memory.{noneTo}
 use Rattle.memory.specs.Rings.{rowFrom}

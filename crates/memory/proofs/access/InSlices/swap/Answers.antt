@@ -1,7 +1,6 @@
 use borrow.Author.Needs.{needs}
-use mathlib.Core.Path.{_≡_, refl, sym, ap, _∙_}
-use Prim.Native.Nat.{ℕ, _<_}
-use native.Mathlib.Omega.{arith}
+use mathlib.Core.Path.{refl, sym, ap, _∙_}
+use Prim.Native.Nat.{_<_}
 use lib.ListN.{length, getD}
 use Rattle.routes.specs.Memory.{Mem}
 use Rattle.memory.proofs.Arrivals.{arrives-same, swap-hit, swap-miss}

@@ -1,7 +1,7 @@
 use mathlib.Core.Path.{refl, sym, ap}
 use Prim.Native.Nat.{_<_}
 use native.Mathlib.Omega.{arith}
-use lib.ListN.{length, getD}
+use lib.ListN.{getD}
 use Rattle.routes.specs.Memory.{rest}
 use Rattle.memory.specs.declared.layout.Layout.{Layout}
 use Rattle.memory.specs.Rings.{noRow}

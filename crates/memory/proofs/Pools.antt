@@ -36,22 +36,21 @@ all-held blocks hs marked all b h = elim (cases-bool (heldOf hs b)) [
 
 module _ (blocks : ℕ) (hs : List Bool) (fs : List ℕ) (n : ℕ) (marked : length hs ≡ blocks) (free : StackFree blocks hs fs n) (apart : StackApart fs n) (all : AllCounted blocks hs n) where
   -- The block on top of the stack is got: those below it are still free.
-  pub obtained-free : 0 < n → StackFree blocks (set hs (getD fs (n - 1) 0) true) fs (n - 1)
-  obtained-free some i h =
+  pub obtained-free : (b : ℕ) → 0 < n → b ≡ getD fs (n - 1) 0 → StackFree blocks (set hs b true) fs (n - 1)
+  obtained-free b some top i h =
       let f = free i (omega arith) in
-      let other : getD fs i 0 ≢ getD fs (n - 1) 0 = λ e. (let same = apart i (n - 1) (omega arith, omega arith, e) in omega arith) in
-      (f .0, getD-set-other hs (getD fs (n - 1) 0) (getD fs i 0) true false other ∙ f .1)
+      let other : getD fs i 0 ≢ b = λ e. (let same = apart i (n - 1) (omega arith, omega arith, e ∙ top) in omega arith) in
+      (f .0, getD-set-other hs b (getD fs i 0) true false other ∙ f .1)
 
   -- No block stands twice among fewer.
   pub obtained-apart : StackApart fs (n - 1)
   obtained-apart i j h = apart i j (omega arith, omega arith, h .2)
 
   -- One more is held, one less is free.
-  pub obtained-count : 0 < n → AllCounted blocks (set hs (getD fs (n - 1) 0) true) (n - 1)
-  obtained-count some =
-      let f = free (n - 1) (omega arith) in
-      let more = count-set blocks hs (getD fs (n - 1) 0) true (omega arith) (f .0) in
-      omega (arith, rw (f .1) at more)
+  pub obtained-count : (b : ℕ) → 0 < n → b < blocks → heldOf hs b ≡ false → AllCounted blocks (set hs b true) (n - 1)
+  obtained-count b some h e =
+      let more = count-set blocks hs b true (omega arith) h in
+      omega (arith, rw e at more)
 
   -- Where a block is held, there is room on the stack.
   pub stack-room : (b : ℕ) → b < blocks → heldOf hs b ≡ true → n < blocks

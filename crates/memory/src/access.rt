@@ -2,7 +2,7 @@
 ghost use mathlib.Core.Path.{_≡_};
 ghost use mathlib.Core.List.{[]};
 ghost use Prim.Native.Nat.{_<_};
-ghost use Rattle.routes.specs.Memory.{sees};
+ghost use Rattle.routes.specs.Memory.{MayTouch, Arrives, sees, fenced, swapped, counted};
 ghost use Rattle.memory.specs.Memories.{memOf};
 
 use crate::arrive::word_at;
@@ -19,6 +19,24 @@ impl SharedMemory<'_> {
         let i = p as usize;
         let there = self.words[word_at(block, word)];
         newest(self.late, self.layout.room, i, self.rows[i], block, word, there)
+    }
+}
+
+impl SharedMemory<'_> {
+    // A fence, and then, if a word is old, it is new; what it was.
+    fn exchange(&mut self, p: u32, block: u32, word: u32, old: u64, new: u64) -> u64
+        requires { ⌜ MayTouch (memOf (now self)) p block word ⌝ }
+        ensures was { λ r. ⌜ r ≡ fenced p (memOf (now (self .entry))) .val block word ⌝ }
+        ensures then { λ _. ⌜ Arrives (counted (swapped p block word old new (memOf (now (self .entry))))) (memOf (now (self .exit))) ⌝ }
+    {
+        self.left -= 1;
+        self.arrive_all(p);
+        let at = word_at(block, word);
+        let was = self.words[at];
+        if was == old {
+            self.words[at] = new;
+        }
+        was
     }
 }
 
@@ -42,8 +60,7 @@ pub impl Memory for SharedMemory<'_> as InSlices {
 
     fn store(&mut self, p: u32, block: u32, word: u32, x: u64) {
         self.left -= 1;
-        self.make_room(p);
-        self.push(p, block, word, x);
+        self.append(p, block, word, x);
     }
 
     fn fence(&mut self, p: u32) {
@@ -52,35 +69,17 @@ pub impl Memory for SharedMemory<'_> as InSlices {
     }
 
     fn swap(&mut self, p: u32, block: u32, word: u32, old: u64, new: u64) -> u64 {
-        self.left -= 1;
-        self.arrive_all(p);
-        let at = word_at(block, word);
-        let was = self.words[at];
-        if was == old {
-            self.words[at] = new;
-        }
-        was
+        self.exchange(p, block, word, old, new)
     }
 
     fn obtain(&mut self, p: u32) -> Option<u32> {
         let _p = p;
-        self.left -= 1;
-        if self.free_count == 0 {
-            return None;
-        }
-        let top = self.free_count - 1;
-        let block = self.free[top];
-        self.held[block as usize] = true;
-        self.free_count = top;
-        Some(block)
+        self.take_block()
     }
 
     fn release(&mut self, p: u32, block: u32) {
         let _p = p;
         self.left -= 1;
-        let top = self.free_count;
-        self.free[top] = block;
-        self.held[block as usize] = false;
-        self.free_count = top + 1;
+        self.put_back(block);
     }
 }

@@ -1,6 +1,8 @@
 // Stores arrive.
 ghost use mathlib.Core.Path.{_≡_};
+ghost use mathlib.Core.Bool.{false};
 ghost use Prim.Native.Nat.{ℕ, _<_};
+ghost use lib.Dec.{T};
 ghost use lib.ListN.{length};
 ghost use Rattle.routes.specs.Memory.{Arrives, oldest, fenced, stored};
 ghost use Rattle.memory.specs.Words.{wordAt};
@@ -41,15 +43,24 @@ impl SharedMemory<'_> {
         true
     }
 
+    // The same, as a step of a fence: false when all have arrived.
+    fn arrive_next(&mut self, p: u32) -> bool
+        ensures still { λ _. ⌜ fenced p (memOf (now (self .exit))) ≡ fenced p (memOf (now (self .entry))) ⌝ }
+        ensures fewer { λ r. ⌜ (T r → length (memOf (now (self .exit)) .late p) < length (memOf (now (self .entry)) .late p)) ⌝ }
+        ensures over { λ r. ⌜ (r ≡ false → memOf (now (self .exit)) ≡ fenced p (memOf (now (self .entry)))) ⌝ }
+    {
+        self.arrive(p)
+    }
+
     // All stores of a processor arrive.
     pub(crate) fn arrive_all(&mut self, p: u32)
         ensures { λ _. ⌜ memOf (now (self .exit)) ≡ fenced p (memOf (now (self .entry))) ⌝ }
     {
-        while self.arrive(p) {}
+        while self.arrive_next(p) {}
     }
 
     // A row that is full lets its oldest store arrive.
-    pub(crate) fn make_room(&mut self, p: u32)
+    fn make_room(&mut self, p: u32)
         requires { ⌜ p < 16 ⌝ }
         ensures later { λ _. ⌜ ((b w x : ℕ) → Arrives (stored p b w x (memOf (now (self .entry)))) (stored p b w x (memOf (now (self .exit))))) ⌝ }
         ensures room { λ _. ⌜ length (memOf (now (self .exit)) .late p) < now (self .exit) .layout .room ⌝ }
@@ -61,7 +72,7 @@ impl SharedMemory<'_> {
     }
 
     // A store is put behind the last of a row that has room for it.
-    pub(crate) fn push(&mut self, p: u32, block: u32, word: u32, x: u64)
+    fn push(&mut self, p: u32, block: u32, word: u32, x: u64)
         requires whose { ⌜ p < 16 ⌝ }
         requires target { ⌜ block < now self .layout .blocks ⌝ ∗ ⌜ word < 48 ⌝ }
         requires room { ⌜ length (memOf (now self) .late p) < now self .layout .room ⌝ }
@@ -72,5 +83,15 @@ impl SharedMemory<'_> {
         let at = place_of(self.layout.room, i, row.first, row.many);
         self.late[at] = LateStore { block, word, x };
         self.rows[i] = Row { first: row.first, many: row.many + 1 };
+    }
+
+    // A store is made: it is put behind the last of its row.
+    pub(crate) fn append(&mut self, p: u32, block: u32, word: u32, x: u64)
+        requires whose { ⌜ p < 16 ⌝ }
+        requires target { ⌜ block < now self .layout .blocks ⌝ ∗ ⌜ word < 48 ⌝ }
+        ensures { λ _. ⌜ Arrives (stored p block word x (memOf (now (self .entry)))) (memOf (now (self .exit))) ⌝ }
+    {
+        self.make_room(p);
+        self.push(p, block, word, x);
     }
 }

@@ -3,6 +3,7 @@ mod access;
 mod arrive;
 mod guard;
 mod layout;
+mod pool;
 mod row;
 mod shared;
 mod start;

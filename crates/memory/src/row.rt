@@ -1,8 +1,9 @@
 // Stores that have not arrived, and the rows in which they wait.
 ghost use mathlib.Core.Path.{_≡_};
-ghost use Prim.Native.Nat.{ℕ, _*_, _<_, _≤_};
+ghost use Prim.Native.Nat.{ℕ, _-_, _*_, _<_, _≤_};
 ghost use lib.Dec.{T};
 ghost use lib.ListN.{length};
+ghost use Rattle.std.specs.Options.{Cases};
 ghost use Rattle.routes.specs.Memory.{lastLate, noneTo};
 ghost use Rattle.memory.specs.Rings.{wrapped, placeOf, rowFrom, rowOf, RowsIn};
 
@@ -36,16 +37,27 @@ pub fn place_of(room: usize, p: usize, first: usize, k: usize) -> usize
     16 * wrap(room, first + k) + p
 }
 
+// What the last of n stores of processor p's row put into a word, if it goes there.
+pub fn last_to(late: &[LateStore], room: usize, p: usize, first: usize, n: usize, block: u32, word: u32) -> Option<u64>
+    requires ring { ⌜ length (now late) ≡ 16 * room ⌝ ∗ ⌜ p < 16 ⌝ ∗ ⌜ first < room ⌝ }
+    requires some { ⌜ 0 < n ⌝ ∗ ⌜ n ≤ room ⌝ }
+    ensures { λ r. ⌜ Cases r ((old : ℕ) → lastLate block word (rowFrom (now (late .entry)) room p first n) old ≡ lastLate block word (rowFrom (now (late .entry)) room p first (n - 1)) old) (λ x. (old : ℕ) → lastLate block word (rowFrom (now (late .entry)) room p first n) old ≡ x) ⌝ }
+{
+    let store = late[place_of(room, p, first, n - 1)];
+    if block == store.block && word == store.word { Some(store.x) } else { None }
+}
+
 // What processor p sees in a word: its newest store to it, or what is there.
 pub fn newest(late: &[LateStore], room: usize, p: usize, row: Row, block: u32, word: u32, old: u64) -> u64
-    requires { ⌜ length (now late) ≡ 16 * room ⌝ ∗ ⌜ p < 16 ⌝ ∗ ⌜ row .first < room ⌝ ∗ ⌜ row .many ≤ room ⌝ }
+    requires ring { ⌜ length (now late) ≡ 16 * room ⌝ ∗ ⌜ p < 16 ⌝ ∗ ⌜ row .first < room ⌝ ∗ ⌜ row .many ≤ room ⌝ }
     ensures { λ r. ⌜ r ≡ lastLate block word (rowFrom (now (late .entry)) room p (row .first) (row .many)) old ⌝ }
 {
-    for k in (0..row.many).rev() {
-        let store = late[place_of(room, p, row.first, k)];
-        if block == store.block && word == store.word {
-            return store.x;
+    let mut n = row.many;
+    while n > 0 {
+        if let Some(x) = last_to(late, room, p, row.first, n, block, word) {
+            return x;
         }
+        n -= 1;
     }
     old
 }

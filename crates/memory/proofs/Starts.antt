@@ -3,7 +3,7 @@ use mathlib.Core.Path.{_≡_, refl, ap, _∙_}
 use mathlib.Core.Bool.{Bool}
 use mathlib.Core.Logic.{inl, inr}
 use mathlib.Core.List.{List, []}
-use Prim.Native.Nat.{ℕ, _+_, _-_, _*_, _<_}
+use Prim.Native.Nat.{ℕ, _+_, _-_, _*_, _<_, _≤_}
 use native.Mathlib.Omega.{arith}
 use lib.Dec.{eqb}
 use lib.ListN.{getD, replicate}
@@ -22,6 +22,10 @@ pub start-val : (ws : List ℕ) → ((w : ℕ) → w < 48 → getD ws w 0 ≡ 0)
 start-val ws zero w = elim (cases-lt w 48) [
       inl h ↦ (let place : 48 * 0 + w ≡ w = omega arith in let read = zero w h in rw (place, read) (grind (arith, tells)))
     | inr h ↦ grind (arith, tells) ]
+
+-- Other blocks are as they were.
+pub start-kept : (ws vs : List ℕ) → ((i : ℕ) → 48 ≤ i → getD ws i 0 ≡ getD vs i 0) → (b w : ℕ) → 0 < b → valOf ws b w ≡ valOf vs b w
+start-kept ws vs same b w h = rw (same (48 * b + w) (omega arith)) refl
 
 -- All rows are empty.
 pub start-row : (p : ℕ) → getD (replicate 16 noRow) p noRow ≡ noRow

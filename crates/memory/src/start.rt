@@ -6,6 +6,7 @@ ghost use lib.ListN.{length, getD};
 ghost use Rattle.std.specs.Results.{Cases};
 ghost use Rattle.std.specs.declared.option.Option.the-variants.{Some};
 ghost use Rattle.routes.specs.Memory.{AtStart};
+ghost use Rattle.memory.specs.Words.{valOf};
 ghost use Rattle.memory.specs.Pools.{heldOf};
 ghost use Rattle.memory.specs.Rings.{noStore};
 ghost use Rattle.memory.specs.Layouts.{misfit, LentFor, LaidOut};
@@ -47,7 +48,8 @@ impl Layout {
 // Block 0 is noughts.
 fn clear_first(words: &mut [u64])
     requires { ⌜ 48 ≤ length (now words) ⌝ }
-    ensures { λ _. ⌜ ((w : ℕ) → w < 48 → getD (now (words .exit)) w 0 ≡ 0) ⌝ }
+    ensures noughts { λ _. ⌜ ((w : ℕ) → w < 48 → getD (now (words .exit)) w 0 ≡ 0) ⌝ }
+    ensures kept { λ _. ⌜ ((i : ℕ) → 48 ≤ i → getD (now (words .exit)) i 0 ≡ getD (now (words .entry)) i 0) ⌝ }
 {
     for w in 0..48 {
         words[w] = 0;
@@ -84,11 +86,12 @@ fn clear_rows(late: &mut [LateStore])
 }
 
 impl<'a> SharedMemory<'a> {
-    // A memory as it starts. What the words of other blocks than 0 hold stays.
+    // A memory as it starts. Block 0 is noughts; the words of the others stay as they are.
     pub fn new(layout: Layout, words: &'a mut [u64], held: &'a mut [bool], free: &'a mut [u32], late: &'a mut [LateStore]) -> SharedMemory<'a>
         requires { ⌜ LentFor layout (length (now words)) (length (now held)) (length (now free)) (length (now late)) ⌝ }
         ensures starts { λ r. ⌜ AtStart (memOf r) ⌝ }
-        ensures sized { λ r. ⌜ r .layout ≡ layout ⌝ }
+        ensures sized { λ r. ⌜ r .layout ≡ layout ⌝ ∗ ⌜ memOf r .left ≡ 0 ⌝ }
+        ensures kept { λ r. ⌜ ((b w : ℕ) → 0 < b → memOf r .val b w ≡ valOf (now (words .entry)) b w) ⌝ }
     {
         clear_first(words);
         hold_first(held);

@@ -2,7 +2,7 @@ use mathlib.Core.Path.{refl, _∙_}
 use Prim.Native.Nat.{_<_}
 use native.Mathlib.Omega.{arith}
 use Rattle.std.proofs.shelf.Tests.{ne-eqb}
-use Rattle.memory.proofs.Starts.{start-val, start-late, start-rows-in, start-stores-in, start-free, start-apart, start-count}
+use Rattle.memory.proofs.Starts.{start-val, start-kept, start-late, start-rows-in, start-stores-in, start-free, start-apart, start-count}
 use Rattle.memory.proofs.shared.SharedMemory.new.Needs as need
 
 pub ghost-result : need.ghost-result
@@ -19,5 +19,6 @@ pub returns : need.returns
 returns c =
     let layout = c .args .layout in
     record {
-      starts = (layout .some, layout .few, layout .least, layout .most, start-val _ (c .clear-first .ensures), rw (c .hold-first .ensures 0) tt, (λ b h. c .hold-first .ensures b ∙ ne-eqb b 0 (omega arith)), start-late _ _);
-      sized = refl }
+      starts = (layout .some, layout .few, layout .least, layout .most, start-val _ (c .clear-first .ensures .noughts), rw (c .hold-first .ensures 0) tt, (λ b h. c .hold-first .ensures b ∙ ne-eqb b 0 (omega arith)), start-late _ _);
+      sized = (refl, refl);
+      kept = λ b w h. start-kept _ _ (c .clear-first .ensures .kept) b w h }

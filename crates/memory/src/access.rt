@@ -12,7 +12,7 @@ use routes::Memory;
 
 impl SharedMemory<'_> {
     // What a processor sees in a word.
-    pub(crate) fn seen_by(&self, p: u32, block: u32, word: u32) -> u64
+    fn seen_by(&self, p: u32, block: u32, word: u32) -> u64
         requires { ⌜ p < 16 ⌝ ∗ ⌜ block < now self .layout .blocks ⌝ ∗ ⌜ word < 48 ⌝ }
         ensures { λ r. ⌜ r ≡ sees p block word (memOf (now (self .entry))) ⌝ }
     {
@@ -20,9 +20,7 @@ impl SharedMemory<'_> {
         let there = self.words[word_at(block, word)];
         newest(self.late, self.layout.room, i, self.rows[i], block, word, there)
     }
-}
 
-impl SharedMemory<'_> {
     // A fence, and then, if a word is old, it is new; what it was.
     fn exchange(&mut self, p: u32, block: u32, word: u32, old: u64, new: u64) -> u64
         requires { ⌜ MayTouch (memOf (now self)) p block word ⌝ }

@@ -14,12 +14,14 @@ use crate::row::Row;
 use crate::row::place_of;
 use crate::row::wrap;
 use crate::shared::SharedMemory;
+use crate::size::BLOCK_WORDS;
+use crate::size::MOST_CPUS;
 
 // Where a word of a block stands.
 pub fn word_at(block: u32, word: u32) -> usize
     ensures { λ r. ⌜ r ≡ wordAt block word ⌝ }
 {
-    48 * block as usize + word as usize
+    BLOCK_WORDS * block as usize + word as usize
 }
 
 impl SharedMemory<'_> {
@@ -30,14 +32,14 @@ impl SharedMemory<'_> {
         ensures same { λ _. ⌜ now (self .exit) .layout ≡ now (self .entry) .layout ⌝ }
     {
         let i = p as usize;
-        if i >= 16 {
+        if i >= MOST_CPUS {
             return false;
         }
         let row = self.rows[i];
         if row.many == 0 {
             return false;
         }
-        let store = self.late[16 * row.first + i];
+        let store = self.late[MOST_CPUS * row.first + i];
         self.words[word_at(store.block, store.word)] = store.x;
         self.rows[i] = Row { first: wrap(self.layout.room, row.first + 1), many: row.many - 1 };
         true

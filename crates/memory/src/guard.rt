@@ -8,6 +8,7 @@ ghost use Rattle.memory.specs.Memories.{MayAsk, memOf};
 
 use crate::row::none_in_rows;
 use crate::shared::SharedMemory;
+use crate::size::BLOCK_WORDS;
 
 impl SharedMemory<'_> {
     // It is a processor's turn, with one thing to ask.
@@ -27,24 +28,24 @@ impl SharedMemory<'_> {
 
     // May a processor ask for a fence or a block?
     pub fn may_ask(&self, p: u32) -> bool
-        ensures so { λ r. ⌜ (T r → MayAsk (memOf (now (self .entry))) p) ⌝ }
-        ensures else_not { λ r. ⌜ (MayAsk (memOf (now (self .entry))) p → T r) ⌝ }
+        ensures sound { λ r. ⌜ (T r → MayAsk (memOf (now (self .entry))) p) ⌝ }
+        ensures exact { λ r. ⌜ (MayAsk (memOf (now (self .entry))) p → T r) ⌝ }
     {
         0 < self.left && p == self.who && p < self.layout.cpus
     }
 
     // May it load, store or swap a word?
     pub fn may_touch(&self, p: u32, block: u32, word: u32) -> bool
-        ensures so { λ r. ⌜ (T r → MayTouch (memOf (now (self .entry))) p block word) ⌝ }
-        ensures else_not { λ r. ⌜ (MayTouch (memOf (now (self .entry))) p block word → T r) ⌝ }
+        ensures sound { λ r. ⌜ (T r → MayTouch (memOf (now (self .entry))) p block word) ⌝ }
+        ensures exact { λ r. ⌜ (MayTouch (memOf (now (self .entry))) p block word → T r) ⌝ }
     {
-        self.may_ask(p) && block < self.layout.blocks && self.held[block as usize] && word < 48
+        self.may_ask(p) && block < self.layout.blocks && self.held[block as usize] && (word as usize) < BLOCK_WORDS
     }
 
     // May it give a block back?
     pub fn may_release(&self, p: u32, block: u32) -> bool
-        ensures so { λ r. ⌜ (T r → MayRelease (memOf (now (self .entry))) p block) ⌝ }
-        ensures else_not { λ r. ⌜ (MayRelease (memOf (now (self .entry))) p block → T r) ⌝ }
+        ensures sound { λ r. ⌜ (T r → MayRelease (memOf (now (self .entry))) p block) ⌝ }
+        ensures exact { λ r. ⌜ (MayRelease (memOf (now (self .entry))) p block → T r) ⌝ }
     {
         0 < block && self.may_touch(p, block, 0) && none_in_rows(self.late, self.layout.room, &self.rows, block)
     }

@@ -6,6 +6,7 @@ mod layout;
 mod pool;
 mod row;
 mod shared;
+mod size;
 mod start;
 
 pub use access::InSlices;
@@ -13,3 +14,7 @@ pub use layout::Layout;
 pub use layout::MemoryError;
 pub use row::LateStore;
 pub use shared::SharedMemory;
+pub use size::BLOCK_WORDS;
+pub use size::LEAST_BLOCKS;
+pub use size::MOST_BLOCKS;
+pub use size::MOST_CPUS;

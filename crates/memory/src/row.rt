@@ -7,6 +7,8 @@ ghost use Rattle.std.specs.Options.{Cases};
 ghost use Rattle.routes.specs.Memory.{lastLate, noneTo};
 ghost use Rattle.memory.specs.Rings.{wrapped, placeOf, rowFrom, rowOf, RowsIn};
 
+use crate::size::MOST_CPUS;
+
 // A store that has not arrived.
 #[derive(Clone, Copy)]
 pub struct LateStore {
@@ -15,7 +17,7 @@ pub struct LateStore {
     pub x: u64,
 }
 
-// One processor's row: the slot of its oldest store, and how many there are.
+// One processor's row: the slot of its oldest store, and how many there are. A row that is full lets its oldest store arrive.
 #[derive(Clone, Copy)]
 pub struct Row {
     pub first: usize,
@@ -34,7 +36,7 @@ pub fn place_of(room: usize, p: usize, first: usize, k: usize) -> usize
     requires { ⌜ p < 16 ⌝ ∗ ⌜ first < room ⌝ ∗ ⌜ k < room ⌝ ∗ ⌜ 16 * room < 18446744073709551616 ⌝ }
     ensures { λ r. ⌜ r ≡ placeOf room p first k ⌝ }
 {
-    16 * wrap(room, first + k) + p
+    MOST_CPUS * wrap(room, first + k) + p
 }
 
 // What the last of n stores of processor p's row put into a word, if it goes there.
@@ -82,7 +84,7 @@ pub fn none_in_rows(late: &[LateStore], room: usize, rows: &[Row], block: u32) -
     ensures none { λ r. ⌜ (T r → (q : ℕ) → T (noneTo block (rowOf (now (late .entry)) room (now (rows .entry)) q))) ⌝ }
     ensures some { λ r. ⌜ (((q : ℕ) → T (noneTo block (rowOf (now (late .entry)) room (now (rows .entry)) q))) → T r) ⌝ }
 {
-    for p in 0..16 {
+    for p in 0..MOST_CPUS {
         if !none_to(late, room, p, rows[p], block) {
             return false;
         }

@@ -9,6 +9,7 @@ ghost use Rattle.memory.specs.Rings.{RowsIn, StoresIn};
 use crate::layout::Layout;
 use crate::row::LateStore;
 use crate::row::Row;
+use crate::size::MOST_CPUS;
 
 // The words of the blocks, a mark for each block that is held, the stack of those that are free, and 16 rows of late stores.
 #[derive(Drop)]
@@ -17,7 +18,7 @@ pub struct SharedMemory<'a> {
     pub(crate) held: &'a mut [bool],
     pub(crate) free: &'a mut [u32],
     pub(crate) late: &'a mut [LateStore],
-    pub(crate) rows: [Row; 16],
+    pub(crate) rows: [Row; MOST_CPUS],
     pub(crate) layout: Layout,
     // how many blocks are free
     pub(crate) free_count: usize,

@@ -17,19 +17,23 @@ use crate::layout::MemoryError;
 use crate::row::LateStore;
 use crate::row::Row;
 use crate::shared::SharedMemory;
+use crate::size::BLOCK_WORDS;
+use crate::size::LEAST_BLOCKS;
+use crate::size::MOST_BLOCKS;
+use crate::size::MOST_CPUS;
 
 impl Layout {
     // The layout of so many processors and blocks in slices that are as long as they have to be.
     pub fn new(cpus: u32, blocks: u32, words: &[u64], held: &[bool], free: &[u32], late: &[LateStore]) -> Result<Layout, MemoryError>
         ensures { λ r. ⌜ Cases r (LaidOut cpus blocks (length (now (words .entry))) (length (now (held .entry))) (length (now (free .entry))) (length (now (late .entry)))) (λ e. misfit cpus blocks (length (now (words .entry))) (length (now (held .entry))) (length (now (free .entry))) (length (now (late .entry))) ≡ Some e) ⌝ }
     {
-        if cpus == 0 || cpus > 16 {
+        if cpus == 0 || cpus as usize > MOST_CPUS {
             return Err(MemoryError::Cpus);
         }
-        if blocks < 256 || blocks > 1_048_576 {
+        if blocks < LEAST_BLOCKS || blocks > MOST_BLOCKS {
             return Err(MemoryError::Blocks);
         }
-        if words.len() != 48 * blocks as usize {
+        if words.len() != BLOCK_WORDS * blocks as usize {
             return Err(MemoryError::Words);
         }
         if held.len() != blocks as usize {
@@ -38,10 +42,10 @@ impl Layout {
         if free.len() != blocks as usize {
             return Err(MemoryError::Stack);
         }
-        if late.len() == 0 || late.len() % 16 != 0 {
+        if late.len() == 0 || late.len() % MOST_CPUS != 0 {
             return Err(MemoryError::Rows);
         }
-        Ok(Layout { cpus, blocks, room: late.len() / 16 })
+        Ok(Layout { cpus, blocks, room: late.len() / MOST_CPUS })
     }
 }
 
@@ -51,7 +55,7 @@ fn clear_first(words: &mut [u64])
     ensures noughts { λ _. ⌜ ((w : ℕ) → w < 48 → getD (now (words .exit)) w 0 ≡ 0) ⌝ }
     ensures kept { λ _. ⌜ ((i : ℕ) → 48 ≤ i → getD (now (words .exit)) i 0 ≡ getD (now (words .entry)) i 0) ⌝ }
 {
-    for w in 0..48 {
+    for w in 0..BLOCK_WORDS {
         words[w] = 0;
     }
 }
@@ -97,7 +101,7 @@ impl<'a> SharedMemory<'a> {
         hold_first(held);
         stack_others(free, layout.blocks);
         clear_rows(late);
-        let rows = [Row { first: 0, many: 0 }; 16];
+        let rows = [Row { first: 0, many: 0 }; MOST_CPUS];
         let free_count = layout.blocks as usize - 1;
         SharedMemory { words, held, free, late, rows, layout, free_count, left: 0, who: 0 }
     }

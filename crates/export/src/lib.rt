@@ -1,4 +1,6 @@
 // What Rust and C programs call: plain numbers and lent words. Nothing that a caller passes is trusted.
+#![tactic(auto)]
+
 mod begin;
 mod play;
 mod processor;

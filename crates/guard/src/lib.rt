@@ -1,4 +1,6 @@
 // A guard at run time: whether the next turn of a processor may be taken.
+#![tactic(auto)]
+
 mod asking;
 mod ok;
 mod ready;

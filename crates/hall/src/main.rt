@@ -1,4 +1,6 @@
 // Plays scripts of a parcel hall: processors look routes up and change them, a turn at a time.
+#![tactic(auto)]
+
 ghost use Rattle.std.specs.Prelude.{◌≡◌, is_err};
 ghost use Rattle.hall.specs.Stops.{is_error};
 

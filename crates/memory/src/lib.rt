@@ -1,4 +1,6 @@
 // A memory that processors share, in memory: lent slices, with the stores of each processor arriving late.
+#![tactic(auto)]
+
 mod access;
 mod arrive;
 mod guard;

@@ -1,4 +1,6 @@
 // A schedule that is a list of moves in words of 64 bits, for callers that are not scripts.
+#![tactic(auto)]
+
 mod list;
 mod listed;
 mod playing;

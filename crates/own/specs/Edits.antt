@@ -1,6 +1,6 @@
 -- What one piece of a change makes of the images on its way.
 -- Assumes nothing.
-use Rattle.std.specs.Prelude.{ℕ, zero, suc, ◌+◌, ◌-◌, ◌*◌, ◌/◌, ◌%◌, ◌^◌, cond, List, set, slice_set}
+use Rattle.std.specs.Prelude.{ℕ, zero, suc, ◌+◌, ◌-◌, ◌*◌, ◌/◌, ◌%◌, ◌^◌, cond, List, slice_set}
 use Rattle.words.specs.Address.{nib, place}
 use Rattle.words.specs.Slots.{route_word}
 use Rattle.own.specs.declared.piece.PieceWords.{PieceWords}

@@ -1,4 +1,6 @@
 // A processor's own words: the pieces of its change, images of the nodes on a way, the blocks that it has got and those that it retires.
+#![tactic(auto)]
+
 mod block;
 mod edit;
 mod image;

@@ -1,4 +1,6 @@
 // The turns of a processor whose memory is elsewhere: what it asks next, and what it has when the reply is there.
+#![tactic(auto)]
+
 mod asking;
 mod fields;
 mod names;

@@ -1,6 +1,6 @@
 -- What the world may do at a turn. Fixed, as Memory and Routes are.
 -- Assumes nothing.
-use Rattle.std.specs.Prelude.{◌≡◌, ℕ, zero, suc, ◌+◌, ◌-◌, ◌*◌, ◌/◌, ◌^◌, ◌<◌, ◌≤◌, Bool, true, false, cond, not, ◌&&◌, ◌||◌, T, List, [], ◌∷◌, ◌++◌, length, take, nat_le}
+use Rattle.std.specs.Prelude.{◌≡◌, ℕ, ◌<◌, cond, not, T, List, [], ◌∷◌, ◌++◌, take, nat_le}
 use Rattle.routes.specs.declared.Ask.{Ask}
 use Rattle.routes.specs.declared.Ask.TheVariants.{Find, Change}
 use Rattle.routes.specs.declared.Piece.{Piece}

@@ -1,16 +1,11 @@
 -- What is promised beside the main promise, and may be bettered.
 -- Assumes nothing.
-use Rattle.std.specs.Prelude.{◌≡◌, ℕ, zero, suc, ◌+◌, ◌-◌, ◌*◌, ◌/◌, ◌^◌, ◌<◌, ◌≤◌, Bool, true, false, cond, not, ◌&&◌, ◌||◌, T, ◌⊎◌, List, [], ◌∷◌, ◌++◌, length, ◌≢◌}
+use Rattle.std.specs.Prelude.{◌≡◌, ℕ, ◌≤◌, false, T, List, [], ◌∷◌, ◌≢◌}
 use mathlib.Core.List.{Memᴰ}
-use Rattle.routes.specs.declared.Ask.{Ask}
-use Rattle.routes.specs.declared.Ask.TheVariants.{Find, Change}
-use Rattle.routes.specs.declared.Answer.{Answer}
-use Rattle.routes.specs.declared.Answer.TheVariants.{Found, Nothing, Done, Full, No}
+use Rattle.routes.specs.declared.Answer.TheVariants.{Found, Nothing}
 use Rattle.routes.specs.declared.Piece.{Piece}
-use Rattle.routes.specs.declared.Turn.{Turn}
-use Rattle.routes.specs.declared.Turn.TheVariants.{Begin, Go, Over}
 use Rattle.routes.specs.Memory.{Mem, Arrives}
-use Rattle.routes.specs.Routes.{Route, fits, clean, find, After, Table, Wrong, changed, Event, Asked, Told, Turned, State, Run, Explained, under}
+use Rattle.routes.specs.Routes.{Route, fits, clean, find, Table, changed, Event, State, Run}
 
 -- 1. What is found is the longest route that fits, and nothing only if none does.
 abbrev pub FindsLongest : Type 0

@@ -1,4 +1,6 @@
 // Memory that many processors share, and the world that uses it, as traits; and the turns that they take.
+#![tactic(auto)]
+
 ghost use Rattle.std.specs.Prelude.{◌≡◌, ℕ, ◌+◌, ◌*◌, ◌<◌, ◌≤◌, T, List, [], ◌∷◌, length};
 ghost use Rattle.routes.specs.Memory.{Mem, AtStart, MayTouch, MayRelease, Arrives, Obtains, sees, stored, fenced, swapped, released, counted, allowed};
 ghost use Rattle.routes.specs.Routes.{Event, Told, Turned, Explained};
@@ -98,16 +100,16 @@ pub trait World: Memory {
     // which processor is next, with one thing to ask of the memory: something begins on one that has nothing under way, or one that has goes on
     fn next(&mut self, pieces: &mut [Piece]) -> (u32, Turn)
         requires { length pieces.old ≡ 8 }
-        ensures { (Next result.1 result.0 pieces.new (mem self.old) (seen self.old) (seen self.new)) × (Arrives (allowed result.0 (mem self.old)) (mem self.new)) };
+        ensures { (Next result.1 result.0 pieces.new (Self.mem self.old) (Self.seen self.old) (Self.seen self.new)) × (Arrives (allowed result.0 (Self.mem self.old)) (Self.mem self.new)) };
     // It had a turn, and what it tells it may tell: that is the promise.
     // (Who notes it in finite memory may say that there's no more room; then all is over.)
     fn turned(&mut self, p: u32) -> bool
-        requires { Explained (mem self.old).cpus (mem self.old).blocks (Turned p ∷ seen self.old) }
-        ensures { (mem self.new ≡ mem self.old) × ((T result → seen self.new ≡ Turned p ∷ seen self.old)) };
+        requires { Explained (Self.mem self.old).cpus (Self.mem self.old).blocks (Turned p ∷ Self.seen self.old) }
+        ensures { (Self.mem self.new ≡ Self.mem self.old) × ((T result → Self.seen self.new ≡ Turned p ∷ Self.seen self.old)) };
 
     fn told(&mut self, p: u32, a: Answer) -> bool
-        requires { Explained (mem self.old).cpus (mem self.old).blocks (Told p a ∷ seen self.old) }
-        ensures { (mem self.new ≡ mem self.old) × ((T result → seen self.new ≡ Told p a ∷ seen self.old)) };
+        requires { Explained (Self.mem self.old).cpus (Self.mem self.old).blocks (Told p a ∷ Self.seen self.old) }
+        ensures { (Self.mem self.new ≡ Self.mem self.old) × ((T result → Self.seen self.new ≡ Told p a ∷ Self.seen self.old)) };
 }
 
 // What a processor has in its registers, beside 4,096 words of its own.
@@ -142,10 +144,10 @@ impl Cpu {
 
     // One turn, in which at most one thing is asked of the memory.
     pub fn step<M: Memory>(&mut self, w: &mut M, p: u32, own: &mut [u64]) -> Option<Answer>
-        requires once { 1 ≤ (mem w.old).left }
-        requires ready { Ready (mem w.old) p self.old own.old }
-        ensures stepped { Stepped p (mem w.old) self.old own.old result (mem w.new) self.new own.new }
-        ensures unseen { seen w.new ≡ seen w.old }
+        requires once { 1 ≤ (M.mem w.old).left }
+        requires ready { Ready (M.mem w.old) p self.old own.old }
+        ensures stepped { Stepped p (M.mem w.old) self.old own.old result (M.mem w.new) self.new own.new }
+        ensures unseen { M.seen w.new ≡ M.seen w.old }
     {
         match self.work {
             Work::Idle => None,
@@ -181,9 +183,9 @@ pub fn turns<W: Memory + World>(
     pieces: &mut [Piece],
     many: u64,
 )
-    requires starts { AtStart (mem w.old) }
-    requires unseen { seen w.old ≡ [] }
-    requires lent { (length cpus.old ≡ (mem w.old).cpus) × ((length own.old ≡ 4096 * (mem w.old).cpus) × (length pieces.old ≡ 8)) }
+    requires starts { AtStart (W.mem w.old) }
+    requires unseen { W.seen w.old ≡ [] }
+    requires lent { (length cpus.old ≡ (W.mem w.old).cpus) × ((length own.old ≡ 4096 * (W.mem w.old).cpus) × (length pieces.old ≡ 8)) }
 {
     for i in 0..cpus.len() {
         cpus[i] = Cpu::new();

@@ -56,9 +56,9 @@ fn better(level: u8, slot: Slot, best: Answer) -> Answer
 
 pub fn step_lookup<M: Memory>(l: Lookup, w: &mut M, p: u32) -> LookupNext
     requires ok { LookupOk l }
-    requires may { MayDo (mem w.old) p (lookup_act p l) }
-    ensures moved { LookupMoved p l (mem w.old) result (mem w.new) }
-    ensures unseen { seen w.new ≡ seen w.old }
+    requires may { MayDo (M.mem w.old) p (lookup_act p l) }
+    ensures moved { LookupMoved p l (M.mem w.old) result (M.mem w.new) }
+    ensures unseen { M.seen w.new ≡ M.seen w.old }
 {
     match l {
         Lookup::Epoch { address } => {

@@ -22,9 +22,9 @@ impl NewBlock {
 }
 
 pub fn obtain<M: Memory>(w: &mut M, p: u32) -> Option<NewBlock>
-    requires { MayDo (mem w.old) p Obtain }
-    ensures did { Did p Obtain (mem w.old) (reply_of result) (mem w.new) }
-    ensures unseen { seen w.new ≡ seen w.old }
+    requires { MayDo (M.mem w.old) p Obtain }
+    ensures did { Did p Obtain (M.mem w.old) (reply_of result) (M.mem w.new) }
+    ensures unseen { M.seen w.new ≡ M.seen w.old }
 {
     match w.obtain(p) {
         Some(block) => Some(NewBlock(block)),
@@ -33,18 +33,18 @@ pub fn obtain<M: Memory>(w: &mut M, p: u32) -> Option<NewBlock>
 }
 
 pub fn give_back<M: Memory>(w: &mut M, p: u32, block: u32)
-    requires { MayDo (mem w.old) p (Release block) }
-    ensures did { Did p (Release block) (mem w.old) 0 (mem w.new) }
-    ensures unseen { seen w.new ≡ seen w.old }
+    requires { MayDo (M.mem w.old) p (Release block) }
+    ensures did { Did p (Release block) (M.mem w.old) 0 (M.mem w.new) }
+    ensures unseen { M.seen w.new ≡ M.seen w.old }
 {
     w.release(p, block);
 }
 
 // All that this processor stored has arrived.
 pub fn fence<M: Memory>(w: &mut M, p: u32)
-    requires { MayDo (mem w.old) p Fence }
-    ensures did { Did p Fence (mem w.old) 0 (mem w.new) }
-    ensures unseen { seen w.new ≡ seen w.old }
+    requires { MayDo (M.mem w.old) p Fence }
+    ensures did { Did p Fence (M.mem w.old) 0 (M.mem w.new) }
+    ensures unseen { M.seen w.new ≡ M.seen w.old }
 {
     w.fence(p);
 }

@@ -57,9 +57,9 @@ pub fn step_update<M: Memory>(
     p: u32,
     own: &mut [u64],
 ) -> UpdateNext
-    requires ready { UpdateReady (mem w.old) p job phase own.old }
-    ensures moved { UpdateMoved p job phase (mem w.old) own.old result (mem w.new) own.new }
-    ensures unseen { seen w.new ≡ seen w.old }
+    requires ready { UpdateReady (M.mem w.old) p job phase own.old }
+    ensures moved { UpdateMoved p job phase (M.mem w.old) own.old result (M.mem w.new) own.new }
+    ensures unseen { M.seen w.new ≡ M.seen w.old }
 {
     match phase {
         Phase::Refuse => UpdateNext::Told(Answer::No(Refusal::PieceCount.number())),

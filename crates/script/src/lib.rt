@@ -1,4 +1,6 @@
 // Reading hall scripts: a line is a command, or blank.
+#![tactic(auto)]
+
 mod bytes;
 mod command;
 mod expected;

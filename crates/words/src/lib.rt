@@ -1,4 +1,6 @@
 // The words of a node: which of them an address or a route has, and what a slot or a route word holds.
+#![tactic(auto)]
+
 mod address;
 mod slot;
 

@@ -1,4 +1,6 @@
 // A world in memory: the memory of crates/memory, a schedule that says whose turn it is and what begins, and a journal of what was seen.
+#![tactic(auto)]
+
 mod access;
 mod journal;
 mod notes;

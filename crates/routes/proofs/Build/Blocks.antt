@@ -4,7 +4,7 @@ use Rattle.std.proofs.lemmas.Bool.Decides.{nat_tests}
 use Rattle.own.specs.Layout.{fresh_at, retired_at}
 use Rattle.routes.specs.Counts.Counts.{bit, cnt, seg}
 use Rattle.routes.specs.Keys.Keys.{nibs}
-use Rattle.routes.specs.Tree.Trees.{Tree, none, block_of, top, count, path}
+use Rattle.routes.specs.Tree.Trees.{Tree, none, block_of, count, path}
 use Rattle.routes.specs.Tree.Walks.{down}
 use Rattle.routes.specs.Repr.Images.{Own}
 use Rattle.routes.specs.Build.Writes.{fresh_blocks, unused_blocks, retired_blocks, Held}

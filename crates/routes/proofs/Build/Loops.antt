@@ -1,6 +1,6 @@
 -- The loop that edits images from the bottom up is the edit of a way from the top down.
 use Rattle.std.proofs.Common.{◌≡◌, ℕ, zero, suc, ◌+◌, ◌%◌, ◌^◌, ◌<◌, ◌≤◌, cond, sym, ap, ◌∙◌, inr, add-zero, zero-add, arith}
-use Rattle.words.specs.Address.{nib, place}
+use Rattle.words.specs.Address.{nib}
 use Rattle.words.proofs.Addresses.{place-small}
 use Rattle.own.specs.declared.piece.PieceWords.{PieceWords}
 use Rattle.own.specs.Layout.{image_at, fresh_at}

@@ -16,8 +16,8 @@ loop-t-init g c = turning-start _ _ _ _ _ c.requires.starts c.requires.unseen (�
 pub bounds-cpus-i-in-Begin : goal.bounds-cpus-i-in-Begin
 bounds-cpus-i-in-Begin g c = begins-inside c.loop-t.invariant _ _ _ c.in-Begin.is c.next-p.ensures.0
 
-pub slice-bounds-begin-end : goal.slice-bounds-begin-end
-slice-bounds-begin-end g c = turning-room c.loop-t.invariant _ (begins-inside c.loop-t.invariant _ _ _ c.in-Begin.is c.next-p.ensures.0)
+pub slice_bounds-begin-end : goal.slice_bounds-begin-end
+slice_bounds-begin-end g c = turning-room c.loop-t.invariant _ (begins-inside c.loop-t.invariant _ _ _ c.in-Begin.is c.next-p.ensures.0)
 
 pub loop-t-preserved-in-Begin : goal.loop-t-preserved-in-Begin
 loop-t-preserved-in-Begin g c = turning-begin c.loop-t.invariant _ _ c.next-p.ensures.1 _ _ c.in-Begin.is c.next-p.ensures.0 (c.next-p.auto.pieces ∙ c.loop-t.invariant.pieces) c.begin.auto.own c.begin.ensures.begun
@@ -25,8 +25,8 @@ loop-t-preserved-in-Begin g c = turning-begin c.loop-t.invariant _ _ c.next-p.en
 pub bounds-cpus-i-in-Go : goal.bounds-cpus-i-in-Go
 bounds-cpus-i-in-Go g c = goes-inside c.loop-t.invariant _ _ _ c.in-Go.is c.next-p.ensures.0
 
-pub slice-bounds-step-end : goal.slice-bounds-step-end
-slice-bounds-step-end g c = turning-room c.loop-t.invariant _ (goes-inside c.loop-t.invariant _ _ _ c.in-Go.is c.next-p.ensures.0)
+pub slice_bounds-step-end : goal.slice_bounds-step-end
+slice_bounds-step-end g c = turning-room c.loop-t.invariant _ (goes-inside c.loop-t.invariant _ _ _ c.in-Go.is c.next-p.ensures.0)
 
 pub step-a-requires : goal.step-a-requires
 step-a-requires g c = let r = turning-ready c.loop-t.invariant _ _ c.next-p.ensures.1 _ _ c.in-Go.is c.next-p.ensures.0 (omega (arith, c.loop-t-test.true, c.ranges.many.fits)) in record { once = r.0; ready = r.1 }
@@ -46,7 +46,7 @@ told-requires g c = turning-told
 
 pub loop-t-preserved : goal.loop-t-preserved
 loop-t-preserved g c = turning-noted _ _ c.turned.ensures.0
-    ((c.if-not-turned.ensures.1 tt ∙ ap (λ z. Turned c.next-p.result.0 ∷ z) (c.step-a.ensures.unseen ∙ goes-seen _ _ _ c.in-Go.is c.next-p.ensures.0)) ∙ ap (λ z. seen_of c.next-p.result.0 z (g.W.Memory.seen c.loop-t.w)) (sym c.in-default.is))
+    ((c.if-not-turned.ensures.1 tt ∙ ap (λ z. Turned c.next-p.result.0 ∷ z) (c.step-a.ensures.unseen ∙ goes-seen _ _ _ c.in-Go.is c.next-p.ensures.0)) ∙ ap (λ z. seen_of c.next-p.result.0 z (g.W.Memory.seen c.loop-t.w)) (sym c.in_default.is))
     (turning-step c.loop-t.invariant _ _ c.next-p.ensures.1 _ _ _ c.in-Go.is c.next-p.ensures.0 (omega (arith, c.loop-t-test.true, c.ranges.many.fits))
     (c.next-p.auto.pieces ∙ c.loop-t.invariant.pieces) c.step-a.auto.own c.step-a.ensures.stepped)
 

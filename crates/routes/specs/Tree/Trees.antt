@@ -1,6 +1,6 @@
 -- Trees of nodes. A node has a block, 15 route words and 16 kids.
 -- Assumes nothing.
-use Rattle.std.specs.Prelude.{◌≡◌, ℕ, zero, suc, ◌+◌, ◌<◌, List, [], ◌∷◌, ◌==◌, ◌≢◌}
+use Rattle.std.specs.Prelude.{ℕ, zero, suc, ◌+◌, ◌<◌, List, [], ◌∷◌, ◌==◌, ◌≢◌}
 use Rattle.routes.specs.Counts.Counts.{bit, some, sum}
 
 -- none where there is no node

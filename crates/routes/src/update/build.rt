@@ -96,9 +96,9 @@ fn read<M: Memory>(
     p: u32,
     own: &mut [u64],
 ) -> UpdateNext
-    requires ready { BuildReady (mem w.old) p job (AtRead k level word node) own.old }
-    ensures moved { BuildMoved p job (AtRead k level word node) (mem w.old) own.old result (mem w.new) own.new }
-    ensures unseen { seen w.new ≡ seen w.old }
+    requires ready { BuildReady (M.mem w.old) p job (AtRead k level word node) own.old }
+    ensures moved { BuildMoved p job (AtRead k level word node) (M.mem w.old) own.old result (M.mem w.new) own.new }
+    ensures unseen { M.seen w.new ≡ M.seen w.old }
 {
     let prefix = prefix_at(own, k);
     let x = load_word(w, p, node, word);
@@ -183,9 +183,9 @@ fn write<M: Memory>(
     p: u32,
     own: &mut [u64],
 ) -> UpdateNext
-    requires ready { BuildReady (mem w.old) p job (AtWrite k first level word) own.old }
-    ensures moved { BuildMoved p job (AtWrite k first level word) (mem w.old) own.old result (mem w.new) own.new }
-    ensures unseen { seen w.new ≡ seen w.old }
+    requires ready { BuildReady (M.mem w.old) p job (AtWrite k first level word) own.old }
+    ensures moved { BuildMoved p job (AtWrite k first level word) (M.mem w.old) own.old result (M.mem w.new) own.new }
+    ensures unseen { M.seen w.new ≡ M.seen w.old }
 {
     store_word(
         w,
@@ -198,9 +198,9 @@ fn write<M: Memory>(
 }
 
 pub fn step_build<M: Memory>(job: Job, s: Build, w: &mut M, p: u32, own: &mut [u64]) -> UpdateNext
-    requires ready { BuildReady (mem w.old) p job s own.old }
-    ensures moved { BuildMoved p job s (mem w.old) own.old result (mem w.new) own.new }
-    ensures unseen { seen w.new ≡ seen w.old }
+    requires ready { BuildReady (M.mem w.old) p job s own.old }
+    ensures moved { BuildMoved p job s (M.mem w.old) own.old result (M.mem w.new) own.new }
+    ensures unseen { M.seen w.new ≡ M.seen w.old }
 {
     match s {
         Build::Root => {

@@ -105,9 +105,9 @@ pub fn prefix_at(own: &[u64], k: u32) -> Prefix
 }
 
 fn check_root<M: Memory>(job: Job, k: u32, w: &mut M, p: u32, own: &[u64]) -> UpdateNext
-    requires ready { CheckReady (mem w.old) p job (AtRoot k) own.now }
-    ensures moved { CheckMoved p job (AtRoot k) (mem w.old) own.now result (mem w.new) }
-    ensures unseen { seen w.new ≡ seen w.old }
+    requires ready { CheckReady (M.mem w.old) p job (AtRoot k) own.now }
+    ensures moved { CheckMoved p job (AtRoot k) (M.mem w.old) own.now result (M.mem w.new) }
+    ensures unseen { M.seen w.new ≡ M.seen w.old }
 {
     let prefix = prefix_at(own, k);
     let root = block_of(load_root(w, p));
@@ -123,9 +123,9 @@ fn check_slot<M: Memory>(
     p: u32,
     own: &[u64],
 ) -> UpdateNext
-    requires ready { CheckReady (mem w.old) p job (AtSlot k level node) own.now }
-    ensures moved { CheckMoved p job (AtSlot k level node) (mem w.old) own.now result (mem w.new) }
-    ensures unseen { seen w.new ≡ seen w.old }
+    requires ready { CheckReady (M.mem w.old) p job (AtSlot k level node) own.now }
+    ensures moved { CheckMoved p job (AtSlot k level node) (M.mem w.old) own.now result (M.mem w.new) }
+    ensures unseen { M.seen w.new ≡ M.seen w.old }
 {
     let prefix = prefix_at(own, k);
     let child = block_of(load_slot(w, p, node, nib(level, prefix.bits)));
@@ -133,9 +133,9 @@ fn check_slot<M: Memory>(
 }
 
 fn check_route<M: Memory>(job: Job, k: u32, node: u32, w: &mut M, p: u32, own: &[u64]) -> UpdateNext
-    requires ready { CheckReady (mem w.old) p job (AtRoute k node) own.now }
-    ensures moved { CheckMoved p job (AtRoute k node) (mem w.old) own.now result (mem w.new) }
-    ensures unseen { seen w.new ≡ seen w.old }
+    requires ready { CheckReady (M.mem w.old) p job (AtRoute k node) own.now }
+    ensures moved { CheckMoved p job (AtRoute k node) (M.mem w.old) own.now result (M.mem w.new) }
+    ensures unseen { M.seen w.new ≡ M.seen w.old }
 {
     let prefix = prefix_at(own, k);
     let word = load_route(w, p, node, route_place(prefix.len, prefix.bits));
@@ -143,9 +143,9 @@ fn check_route<M: Memory>(job: Job, k: u32, node: u32, w: &mut M, p: u32, own: &
 }
 
 pub fn step_check<M: Memory>(job: Job, s: Check, w: &mut M, p: u32, own: &[u64]) -> UpdateNext
-    requires ready { CheckReady (mem w.old) p job s own.now }
-    ensures moved { CheckMoved p job s (mem w.old) own.now result (mem w.new) }
-    ensures unseen { seen w.new ≡ seen w.old }
+    requires ready { CheckReady (M.mem w.old) p job s own.now }
+    ensures moved { CheckMoved p job s (M.mem w.old) own.now result (M.mem w.new) }
+    ensures unseen { M.seen w.new ≡ M.seen w.old }
 {
     match s {
         Check::Piece { k } => decided(job, look_at(job, k, own)),

@@ -27,9 +27,9 @@ pub fn finishing(job: Job) -> Phase
 }
 
 pub fn step_finish<M: Memory>(job: Job, s: Finish, w: &mut M, p: u32, own: &[u64]) -> UpdateNext
-    requires ready { FinishReady (mem w.old) p job s own.now }
-    ensures moved { FinishMoved p job s (mem w.old) own.now result (mem w.new) }
-    ensures unseen { seen w.new ≡ seen w.old }
+    requires ready { FinishReady (M.mem w.old) p job s own.now }
+    ensures moved { FinishMoved p job s (M.mem w.old) own.now result (M.mem w.new) }
+    ensures unseen { M.seen w.new ≡ M.seen w.old }
 {
     match s {
         Finish::Unused => {

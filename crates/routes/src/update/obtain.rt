@@ -43,9 +43,9 @@ pub fn undoing(job: Job) -> UpdateNext
 }
 
 fn get<M: Memory>(job: Job, w: &mut M, p: u32, own: &mut [u64]) -> UpdateNext
-    requires ready { ObtainReady (mem w.old) p job AtGet own.old }
-    ensures moved { ObtainMoved p job AtGet (mem w.old) own.old result (mem w.new) own.new }
-    ensures unseen { seen w.new ≡ seen w.old }
+    requires ready { ObtainReady (M.mem w.old) p job AtGet own.old }
+    ensures moved { ObtainMoved p job AtGet (M.mem w.old) own.old result (M.mem w.new) own.new }
+    ensures unseen { M.seen w.new ≡ M.seen w.old }
 {
     match obtain(w, p) {
         Some(block) => {
@@ -60,9 +60,9 @@ fn get<M: Memory>(job: Job, w: &mut M, p: u32, own: &mut [u64]) -> UpdateNext
 }
 
 fn undo<M: Memory>(job: Job, w: &mut M, p: u32, own: &mut [u64]) -> UpdateNext
-    requires ready { ObtainReady (mem w.old) p job AtUndo own.old }
-    ensures moved { ObtainMoved p job AtUndo (mem w.old) own.old result (mem w.new) own.new }
-    ensures unseen { seen w.new ≡ seen w.old }
+    requires ready { ObtainReady (M.mem w.old) p job AtUndo own.old }
+    ensures moved { ObtainMoved p job AtUndo (M.mem w.old) own.old result (M.mem w.new) own.new }
+    ensures unseen { M.seen w.new ≡ M.seen w.old }
 {
     let got = job.got - 1;
     give_back(w, p, fresh_at(own, got));
@@ -70,9 +70,9 @@ fn undo<M: Memory>(job: Job, w: &mut M, p: u32, own: &mut [u64]) -> UpdateNext
 }
 
 pub fn step_obtain<M: Memory>(job: Job, s: Obtain, w: &mut M, p: u32, own: &mut [u64]) -> UpdateNext
-    requires ready { ObtainReady (mem w.old) p job s own.old }
-    ensures moved { ObtainMoved p job s (mem w.old) own.old result (mem w.new) own.new }
-    ensures unseen { seen w.new ≡ seen w.old }
+    requires ready { ObtainReady (M.mem w.old) p job s own.old }
+    ensures moved { ObtainMoved p job s (M.mem w.old) own.old result (M.mem w.new) own.new }
+    ensures unseen { M.seen w.new ≡ M.seen w.old }
 {
     match s {
         Obtain::Get => get(job, w, p, own),

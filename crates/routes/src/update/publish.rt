@@ -21,9 +21,9 @@ pub enum Publish {
 }
 
 pub fn step_publish<M: Memory>(job: Job, s: Publish, w: &mut M, p: u32) -> Phase
-    requires may { MayDo (mem w.old) p (publish_act job s) }
-    ensures moved { PublishMoved p job s (mem w.old) result (mem w.new) }
-    ensures unseen { seen w.new ≡ seen w.old }
+    requires may { MayDo (M.mem w.old) p (publish_act job s) }
+    ensures moved { PublishMoved p job s (M.mem w.old) result (M.mem w.new) }
+    ensures unseen { M.seen w.new ≡ M.seen w.old }
 {
     match s {
         Publish::FenceNodes => {

@@ -54,9 +54,9 @@ pub enum Reclaim {
 
 // A node that nobody can be reading, by what the scan has shown, goes back to the pool.
 fn release<M: Memory>(w: &mut M, p: u32, node: u32, _grace: GracePeriod)
-    requires { MayDo (mem w.old) p (Release node) }
-    ensures did { Did p (Release node) (mem w.old) 0 (mem w.new) }
-    ensures unseen { seen w.new ≡ seen w.old }
+    requires { MayDo (M.mem w.old) p (Release node) }
+    ensures did { Did p (Release node) (M.mem w.old) 0 (M.mem w.new) }
+    ensures unseen { M.seen w.new ≡ M.seen w.old }
 {
     give_back(w, p, node);
 }
@@ -87,9 +87,9 @@ fn released(job: Job, grace: GracePeriod, left: u32) -> Phase
 }
 
 pub fn step_reclaim<M: Memory>(job: Job, s: Reclaim, w: &mut M, p: u32) -> Phase
-    requires may { MayDo (mem w.old) p (reclaim_act s) }
-    ensures moved { ReclaimMoved p job s (mem w.old) result (mem w.new) }
-    ensures unseen { seen w.new ≡ seen w.old }
+    requires may { MayDo (M.mem w.old) p (reclaim_act s) }
+    ensures moved { ReclaimMoved p job s (M.mem w.old) result (M.mem w.new) }
+    ensures unseen { M.seen w.new ≡ M.seen w.old }
 {
     match s {
         Reclaim::Head { grace, left } => {

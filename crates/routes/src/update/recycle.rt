@@ -72,9 +72,9 @@ fn set_head<M: Memory>(
     p: u32,
     own: &mut [u64],
 ) -> UpdateNext
-    requires ready { RecycleReady (mem w.old) p job (AtSetHead node next grace) own.old }
-    ensures moved { RecycleMoved p job (AtSetHead node next grace) (mem w.old) own.old result (mem w.new) own.new }
-    ensures unseen { seen w.new ≡ seen w.old }
+    requires ready { RecycleReady (M.mem w.old) p job (AtSetHead node next grace) own.old }
+    ensures moved { RecycleMoved p job (AtSetHead node next grace) (M.mem w.old) own.old result (M.mem w.new) own.new }
+    ensures unseen { M.seen w.new ≡ M.seen w.old }
 {
     store_limbo_head(w, p, next);
     reuse(own, job.got, node, grace);
@@ -94,9 +94,9 @@ pub fn step_recycle<M: Memory>(
     p: u32,
     own: &mut [u64],
 ) -> UpdateNext
-    requires ready { RecycleReady (mem w.old) p job s own.old }
-    ensures moved { RecycleMoved p job s (mem w.old) own.old result (mem w.new) own.new }
-    ensures unseen { seen w.new ≡ seen w.old }
+    requires ready { RecycleReady (M.mem w.old) p job s own.old }
+    ensures moved { RecycleMoved p job s (M.mem w.old) own.old result (M.mem w.new) own.new }
+    ensures unseen { M.seen w.new ≡ M.seen w.old }
 {
     match s {
         Recycle::Head => oldest(job, block_of(load_limbo_head(w, p))),

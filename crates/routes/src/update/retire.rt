@@ -77,18 +77,18 @@ pub fn follower(job: Job, i: u32, own: &[u64]) -> u32
 }
 
 fn set_next<M: Memory>(job: Job, i: u32, epoch: u64, w: &mut M, p: u32, own: &[u64]) -> Phase
-    requires ready { RetireReady (mem w.old) p job (AtSetNext i epoch) own.now }
-    ensures moved { RetireMoved p job (AtSetNext i epoch) (mem w.old) own.now result (mem w.new) }
-    ensures unseen { seen w.new ≡ seen w.old }
+    requires ready { RetireReady (M.mem w.old) p job (AtSetNext i epoch) own.now }
+    ensures moved { RetireMoved p job (AtSetNext i epoch) (M.mem w.old) own.now result (M.mem w.new) }
+    ensures unseen { M.seen w.new ≡ M.seen w.old }
 {
     store_next_retired(w, p, retired_at(own, i), follower(job, i, own));
     after_next(job, i, epoch)
 }
 
 pub fn step_retire<M: Memory>(job: Job, s: Retire, w: &mut M, p: u32, own: &[u64]) -> Phase
-    requires ready { RetireReady (mem w.old) p job s own.now }
-    ensures moved { RetireMoved p job s (mem w.old) own.now result (mem w.new) }
-    ensures unseen { seen w.new ≡ seen w.old }
+    requires ready { RetireReady (M.mem w.old) p job s own.now }
+    ensures moved { RetireMoved p job s (M.mem w.old) own.now result (M.mem w.new) }
+    ensures unseen { M.seen w.new ≡ M.seen w.old }
 {
     match s {
         Retire::Epoch => {

@@ -89,9 +89,9 @@ fn passed_with(cpus: u32, q: u32, limit: u64) -> Phase
 
 pub fn step_scan<M: Memory>(s: Scan, w: &mut M, p: u32) -> Phase
     requires ok { ScanOk s }
-    requires may { MayDo (mem w.old) p (scan_act s) }
-    ensures moved { ScanMoved p s (mem w.old) result (mem w.new) }
-    ensures unseen { seen w.new ≡ seen w.old }
+    requires may { MayDo (M.mem w.old) p (scan_act s) }
+    ensures moved { ScanMoved p s (M.mem w.old) result (M.mem w.new) }
+    ensures unseen { M.seen w.new ≡ M.seen w.old }
 {
     let cpus = w.cpus();
     match s {

@@ -12,4 +12,4 @@ unfolding pieces_fit
 loop-k-init c = refl
 
 pub loop-k-preserved : goal.loop-k-preserved
-loop-k-preserved c = more _ _ _ _ c.loop-k.invariant c.piece-fits-all.ensures
+loop-k-preserved c = more _ _ _ _ c.loop-k.invariant c.piece_fits-all.ensures

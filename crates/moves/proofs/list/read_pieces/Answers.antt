@@ -5,4 +5,4 @@ pub loop-k-preserved : goal.loop-k-preserved
 loop-k-preserved c =
     below_more _ _
     (λ k h. let ne : k ≢ c.loop-k.k = omega arith in rw get_or-set_other (c.loop-k.invariant k h))
-    (let lt : c.loop-k.k < length c.loop-k.row = omega arith in rw get_or-set_same c.read-piece.ensures)
+    (let lt : c.loop-k.k < length c.loop-k.row = omega arith in rw get_or-set_same c.read_piece.ensures)

@@ -13,4 +13,4 @@ unfolding noughts
 loop-i-init c = refl
 
 pub loop-i-preserved : goal.loop-i-preserved
-loop-i-preserved c = more c.args.own.now c.args.d c.loop-i.i c.image-at.result c.loop-i.empty _ c.loop-i.invariant (search rules) (search rules)
+loop-i-preserved c = more c.args.own.now c.args.d c.loop-i.i c.image_at.result c.loop-i.empty _ c.loop-i.invariant (search rules) (search rules)

@@ -20,5 +20,5 @@ unfolding packed
 packs o d n i j l child r fit h p q s f k e = rw (lt-ltb n 16 h) (let g = fits o d n i j h p q in cc)
 
 pub returns : goal.returns
-returns c = packs c.args.own.now c.args.d c.args.n c.image-at.result c.image-at-2.result c.image-at-3.result c.block-of.result c.pack.result c.best-fit-fit.result
-    (search rules) (search rules) (search rules) (search rules) c.best-fit-fit.ensures.value (search rules) (search rules)
+returns c = packs c.args.own.now c.args.d c.args.n c.image_at.result c.image_at-2.result c.image_at-3.result c.block_of.result c.pack.result c.best_fit-fit.result
+    (search rules) (search rules) (search rules) (search rules) c.best_fit-fit.ensures.value (search rules) (search rules)

@@ -15,4 +15,4 @@ unfolding earlier_of
 loop-j-init c = refl
 
 pub loop-j-preserved : goal.loop-j-preserved
-loop-j-preserved c = more (words_of c.args.own.now) c.piece-at-piece.result c.piece-at.result c.loop-j.j _ _ c.loop-j.invariant (search rules) (search rules)
+loop-j-preserved c = more (words_of c.args.own.now) c.piece_at-piece.result c.piece_at.result c.loop-j.j _ _ c.loop-j.invariant (search rules) (search rules)

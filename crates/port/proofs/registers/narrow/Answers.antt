@@ -12,4 +12,4 @@ unfolding narrow
 loop-i-init c = refl
 
 pub loop-i-preserved : goal.loop-i-preserved
-loop-i-preserved c = more _ _ _ _ c.loop-i.invariant c.most-at.ensures
+loop-i-preserved c = more _ _ _ _ c.loop-i.invariant c.most_at.ensures

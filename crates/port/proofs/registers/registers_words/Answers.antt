@@ -2,7 +2,7 @@ use Rattle.std.proofs.Common.{arith}
 use Rattle.port.proofs.Words.{Fit, reads}
 use Rattle.port.proofs.registers.registers_words.Goals as goal
 
-fit : (c : goal.After-best-word) → Fit c.args.r
+fit : (c : goal.After-best_word) → Fit c.args.r
 fit c = record {
   phase = grind arith;
   state = grind arith;
@@ -22,4 +22,4 @@ fit c = record {
 }
 
 pub returns : goal.returns
-returns c = reads c.args.r c.best-word.result (fit c) c.best-word.ensures.small c.best-word.ensures.same
+returns c = reads c.args.r c.best_word.result (fit c) c.best_word.ensures.small c.best_word.ensures.same

@@ -5,9 +5,9 @@ use Rattle.port.proofs.turn.after.Goals as goal
 pub step-requires : goal.step-requires
 step-requires c = record {
   once = omega (arith, ap (λ m. m.left) c.new-memory.ensures);
-  ready = ready c.new-memory.result c.in-ok-asked.ensures (c.if-not-reply-fits.ensures.sound tt) c.new-memory.ensures;
+  ready = ready c.new-memory.result c.in_ok-asked.ensures (c.if-not-reply_fits.ensures.sound tt) c.new-memory.ensures;
 }
 
 pub returns : goal.returns
 returns c =
-    replied c.new-memory.result c.in-ok-asked.ensures (c.if-not-reply-fits.ensures.sound tt) c.new-memory.ensures c.step.ensures.stepped
+    replied c.new-memory.result c.in_ok-asked.ensures (c.if-not-reply_fits.ensures.sound tt) c.new-memory.ensures c.step.ensures.stepped

@@ -15,4 +15,4 @@ unfolding noted
 loop-k-init c = (refl, below_none _, search rules)
 
 pub loop-k-preserved : goal.loop-k-preserved
-loop-k-preserved c = (more _ _ _ _ _ _ c.loop-k.invariant.0 c.stored.ensures.value c.write-piece.ensures, below_more _ _ c.loop-k.invariant.1 c.stored.ensures.fits, search rules)
+loop-k-preserved c = (more _ _ _ _ _ _ c.loop-k.invariant.0 c.stored.ensures.value c.write_piece.ensures, below_more _ _ c.loop-k.invariant.1 c.stored.ensures.fits, search rules)

@@ -15,4 +15,4 @@ loop-extra-init c = (refl, tt)
 
 pub loop-extra-preserved : goal.loop-extra-preserved
 loop-extra-preserved c =
-    (more _ _ c.loop-extra.extra c.candidate.result _ _ c.loop-extra.invariant.0 (search rules) (search rules), c.fit-or-best.ensures.inside)
+    (more _ _ c.loop-extra.extra c.candidate.result _ _ c.loop-extra.invariant.0 (search rules) (search rules), c.fit_or-best.ensures.inside)

@@ -2,5 +2,5 @@ use Rattle.std.proofs.Common.{refl}
 use Rattle.world.proofs.Marks.{marks-none}
 use Rattle.world.proofs.playing.play.Goals as goal
 
-pub invariant-of-world : goal.invariant-of-world
-invariant-of-world g c = (refl, (marks-none _ c.requires.starts.1, tt))
+pub invariant_of-world : goal.invariant_of-world
+invariant_of-world g c = (refl, (marks-none _ c.requires.starts.1, tt))

@@ -3,4 +3,4 @@ use Rattle.memory.proofs.Arrivals.{arrives-same}
 use Rattle.memory.proofs.access.SharedMemoryMemory.fence.Goals as goal
 
 pub returns : goal.returns
-returns c = (arrives-same (sym c.arrive-all.ensures), refl)
+returns c = (arrives-same (sym c.arrive_all.ensures), refl)

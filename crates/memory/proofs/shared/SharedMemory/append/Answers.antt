@@ -6,9 +6,9 @@ use Rattle.memory.proofs.shared.SharedMemory.append.Goals as goal
 pub push-requires : goal.push-requires
 push-requires c = record {
   whose = c.requires.whose;
-  target = (omega (arith, c.requires.target.0, c.make-room.ensures.same), c.requires.target.1);
-  room = c.make-room.ensures.room;
+  target = (omega (arith, c.requires.target.0, c.make_room.ensures.same), c.requires.target.1);
+  room = c.make_room.ensures.room;
 }
 
 pub returns : goal.returns
-returns c = arrives-on (c.make-room.ensures.later c.args.block c.args.word c.args.x) (arrives-same (sym c.push.ensures))
+returns c = arrives-on (c.make_room.ensures.later c.args.block c.args.word c.args.x) (arrives-same (sym c.push.ensures))

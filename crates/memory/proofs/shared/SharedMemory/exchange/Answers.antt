@@ -7,17 +7,17 @@ use Rattle.memory.proofs.shared.SharedMemory.exchange.Goals as goal
 
 pub returns-then-was-old : goal.returns-then-was-old
 returns-then-was-old c =
-    let self = c.arrive-all.new.self in
-    let fits : get_or self.words.now c.word-at-at.result 0 < 18446744073709551616 = search rules in
-    let inside : c.word-at-at.result < length self.words.now = search rules in
-    let read = val-read self.words.now c.args.block c.args.word c.word-at-at.result c.word-at-at.ensures c.requires.5 fits in
-    let was = ap (λ (m : Mem). m.val c.args.block c.args.word) c.arrive-all.ensures in
-    record { was = sym read ∙ was; then = arrives-same (sym (swap-hit _ _ _ _ _ _ _ _ c.arrive-all.ensures (read ∙ c.if-was-old.true) (word_set _ _ _ _ _ _ _ _ _ c.args.block c.args.word _ _ c.word-at-at.ensures c.requires.5 inside c.ranges.new.fits))) }
+    let self = c.arrive_all.new.self in
+    let fits : get_or self.words.now c.word_at-at.result 0 < 18446744073709551616 = search rules in
+    let inside : c.word_at-at.result < length self.words.now = search rules in
+    let read = val-read self.words.now c.args.block c.args.word c.word_at-at.result c.word_at-at.ensures c.requires.5 fits in
+    let was = ap (λ (m : Mem). m.val c.args.block c.args.word) c.arrive_all.ensures in
+    record { was = sym read ∙ was; then = arrives-same (sym (swap-hit _ _ _ _ _ _ _ _ c.arrive_all.ensures (read ∙ c.if-was-old.true) (word_set _ _ _ _ _ _ _ _ _ c.args.block c.args.word _ _ c.word_at-at.ensures c.requires.5 inside c.ranges.new.fits))) }
 
 pub returns-else-was-old : goal.returns-else-was-old
 returns-else-was-old c =
-    let self = c.arrive-all.new.self in
-    let fits : get_or self.words.now c.word-at-at.result 0 < 18446744073709551616 = search rules in
-    let read = val-read self.words.now c.args.block c.args.word c.word-at-at.result c.word-at-at.ensures c.requires.5 fits in
-    let was = ap (λ (m : Mem). m.val c.args.block c.args.word) c.arrive-all.ensures in
-    record { was = sym read ∙ was; then = arrives-same (sym (swap-miss _ _ _ _ _ _ _ c.arrive-all.ensures (λ e. c.if-was-old.false (sym read ∙ e)))) }
+    let self = c.arrive_all.new.self in
+    let fits : get_or self.words.now c.word_at-at.result 0 < 18446744073709551616 = search rules in
+    let read = val-read self.words.now c.args.block c.args.word c.word_at-at.result c.word_at-at.ensures c.requires.5 fits in
+    let was = ap (λ (m : Mem). m.val c.args.block c.args.word) c.arrive_all.ensures in
+    record { was = sym read ∙ was; then = arrives-same (sym (swap-miss _ _ _ _ _ _ _ c.arrive_all.ensures (λ e. c.if-was-old.false (sym read ∙ e)))) }

@@ -3,19 +3,19 @@ use Rattle.std.proofs.lemmas.Bool.{ne_eqb}
 use Rattle.memory.proofs.Starts.{start-val, start-kept, start-late, start-rows-in, start-stores-in, start-free, start-apart, start-count}
 use Rattle.memory.proofs.shared.SharedMemory.new.Goals as goal
 
-pub invariant-of-result : goal.invariant-of-result
-invariant-of-result c =
+pub invariant_of-result : goal.invariant_of-result
+invariant_of-result c =
     let layout = c.args.layout in
     let some : 0 < layout.blocks = omega (arith, layout.least) in
-    let marked = c.hold-first.ensures in
-    let stacked = c.stack-others.ensures in (
-      c.clear-first.auto.words ∙ c.requires.wide,
+    let marked = c.hold_first.ensures in
+    let stacked = c.stack_others.ensures in (
+      c.clear_first.auto.words ∙ c.requires.wide,
       (
-        c.hold-first.auto.held ∙ c.requires.marked,
+        c.hold_first.auto.held ∙ c.requires.marked,
         (
-          c.stack-others.auto.free ∙ c.requires.stacked,
+          c.stack_others.auto.free ∙ c.requires.stacked,
           (
-            c.clear-rows.auto.late ∙ c.requires.rowed,
+            c.clear_rows.auto.late ∙ c.requires.rowed,
             (
               refl,
               (
@@ -24,7 +24,7 @@ invariant-of-result c =
                   start-apart _ _ _ some marked stacked,
                   (
                     start-count _ _ _ some marked stacked,
-                    (start-rows-in _ layout.roomy, (start-stores-in _ _ some c.clear-rows.ensures, tt)),
+                    (start-rows-in _ layout.roomy, (start-stores-in _ _ some c.clear_rows.ensures, tt)),
                   ),
                 ),
               ),
@@ -38,7 +38,7 @@ pub returns : goal.returns
 returns c =
     let layout = c.args.layout in
     record {
-      starts = (layout.some, layout.few, layout.least, layout.most, start-val _ c.clear-first.ensures.noughts, rw (c.hold-first.ensures 0) tt, (λ b h. c.hold-first.ensures b ∙ ne_eqb b 0 (omega arith)), start-late _ _);
+      starts = (layout.some, layout.few, layout.least, layout.most, start-val _ c.clear_first.ensures.noughts, rw (c.hold_first.ensures 0) tt, (λ b h. c.hold_first.ensures b ∙ ne_eqb b 0 (omega arith)), start-late _ _);
       sized = (refl, refl);
-      kept = λ b w h. start-kept _ _ c.clear-first.ensures.kept b w h;
+      kept = λ b w h. start-kept _ _ c.clear_first.ensures.kept b w h;
     }

@@ -4,13 +4,13 @@ use Rattle.memory.proofs.Rings.{row-short, place_in, rows-in-set, stores-in-set}
 use Rattle.memory.proofs.Memories.{store-pushed}
 use Rattle.memory.proofs.shared.SharedMemory.push.Goals as goal
 
-pub place-of-at-requires : goal.place-of-at-requires
-place-of-at-requires c =
+pub place_of-at-requires : goal.place_of-at-requires
+place_of-at-requires c =
     let self = c.args.self.now in
     (c.requires.whose, ((self.inside c.args.p).0, (row-short _ _ _ c.args.p c.requires.room, self.layout.slots)))
 
-pub invariant-of-self : goal.invariant-of-self
-invariant-of-self c =
+pub invariant_of-self : goal.invariant_of-self
+invariant_of-self c =
     let self = c.args.self.now in
     let row = self.inside c.args.p in
     let less = row-short self.late.now self.layout.room self.rows c.args.p c.requires.room in
@@ -32,7 +32,7 @@ invariant-of-self c =
                     self.counted,
                     (
                       rows-in-set _ _ _ _ self.inside (omega (arith, self.sixteen, c.requires.whose)) row.0 (omega arith),
-                      (stores-in-set _ _ _ _ self.bound (omega (arith, self.rowed, inside, c.place-of-at.ensures)) c.requires.target.0 c.requires.target.1 c.ranges.x.fits, tt),
+                      (stores-in-set _ _ _ _ self.bound (omega (arith, self.rowed, inside, c.place_of-at.ensures)) c.requires.target.0 c.requires.target.1 c.ranges.x.fits, tt),
                     ),
                   ),
                 ),
@@ -46,4 +46,4 @@ invariant-of-self c =
 pub returns : goal.returns
 returns c =
     let self = c.args.self.now in
-    store-pushed _ _ _ _ _ _ _ _ _ c.args.p _ _ self.rowed self.sixteen c.requires.whose (self.inside c.args.p).0 (row-short _ _ _ c.args.p c.requires.room) c.place-of-at.ensures
+    store-pushed _ _ _ _ _ _ _ _ _ c.args.p _ _ self.rowed self.sixteen c.requires.whose (self.inside c.args.p).0 (row-short _ _ _ c.args.p c.requires.room) c.place_of-at.ensures

@@ -10,8 +10,8 @@ bounds-self-top c =
     let self = c.args.self.now in
     omega (arith, self.stacked, stack-room _ _ _ _ self.marked self.unheld self.apart self.counted c.args.block c.requires.inside (T_true _ c.requires.held))
 
-pub invariant-of-self-2 : goal.invariant-of-self-2
-invariant-of-self-2 c =
+pub invariant_of-self-2 : goal.invariant_of-self-2
+invariant_of-self-2 c =
     let self = c.args.self.now in
     let held = T_true _ c.requires.held in
     let room : self.free_count < length self.free.now = omega (arith, self.stacked, stack-room _ _ _ _ self.marked self.unheld self.apart self.counted c.args.block c.requires.inside held) in (

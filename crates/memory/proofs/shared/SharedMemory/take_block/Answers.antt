@@ -6,8 +6,8 @@ use Rattle.memory.proofs.Pools.{obtained-free, obtained-apart, obtained-count}
 use Rattle.memory.proofs.Memories.{mark_set}
 use Rattle.memory.proofs.shared.SharedMemory.take_block.Goals as goal
 
-pub invariant-of-self-in-Some : goal.invariant-of-self-in-Some
-invariant-of-self-in-Some c =
+pub invariant_of-self-in-Some : goal.invariant_of-self-in-Some
+invariant_of-self-in-Some c =
     let self = c.args.self.now in
     let top = c.in-Some.ensures.top in
     let free = c.in-Some.ensures.free in (

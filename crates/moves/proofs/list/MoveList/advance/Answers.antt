@@ -6,4 +6,4 @@ pub returns-in-Some : goal.returns-in-Some
 returns-in-Some c = let h = c.in-Some.ensures in rw (← h.comes) (refl, h.same.1.1, h.left)
 
 pub returns-in-None : goal.returns-in-None
-returns-in-None c = let h = c.in-None.ensures in rw (← h.comes) (taken-up-same h.same.1.0 h.same.0 h.same.1.1 c.take-up.ensures)
+returns-in-None c = let h = c.in-None.ensures in rw (← h.comes) (taken-up-same h.same.1.0 h.same.0 h.same.1.1 c.take_up.ensures)

@@ -8,14 +8,14 @@ use Rattle.moves.proofs.list.MoveList.take_up.Goals as goal
 no_pieces : (l : Listed) (k : ℕ) → body_of l ≡ 0 → k < body_of l → ⊥
 no_pieces l k f h = omega arith
 
-pub returns-in-default : goal.returns-in-default
-returns-in-default c = none c.in-default.ensures refl refl
+pub returns-in_default : goal.returns-in_default
+returns-in_default c = none c.in_default.ensures refl refl
 
 pub returns-in-Find : goal.returns-in-Find
 returns-in-Find c = some c.in-Some.listed (record {
   stands = c.in-Some.ensures;
   behind = c.begin.ensures.same.1.1.0 ∙ ap (λ n. c.args.self.now.at + n) c.width.ensures.value;
-  doing = c.begin.ensures.same.1.1.1 ∙ c.doing-of-self.ensures;
+  doing = c.begin.ensures.same.1.1.1 ∙ c.doing_of-self.ensures;
   begins = c.begin.ensures.begins ∙ ap (λ (l : Listed). begins_of l c.args.busy.now) (sym c.in-Find.is);
   pieces = λ k h. absurd (no_pieces c.in-Some.listed k (ap body_of c.in-Find.is) h);
 })
@@ -26,16 +26,16 @@ returns-in-Change c =
     some c.in-Some.listed (record {
       stands = c.in-Some.ensures;
       behind = c.begin-in-Change.ensures.same.1.1.0 ∙ ap (λ n. c.args.self.now.at + n) c.width.ensures.value;
-      doing = c.begin-in-Change.ensures.same.1.1.1 ∙ c.doing-of-self.ensures;
+      doing = c.begin-in-Change.ensures.same.1.1.1 ∙ c.doing_of-self.ensures;
       begins = c.begin-in-Change.ensures.begins ∙ ap (λ (l : Listed). begins_of l c.args.busy.now) (sym c.in-Change.is);
-      pieces = λ k h. c.read-pieces.ensures k (rw many h);
+      pieces = λ k h. c.read_pieces.ensures k (rw many h);
     })
 
 pub returns-in-Go : goal.returns-in-Go
 returns-in-Go c = some c.in-Some.listed (record {
   stands = c.in-Some.ensures;
   behind = ap (λ n. c.args.self.now.at + n) c.width.ensures.value;
-  doing = c.doing-of-self.ensures;
+  doing = c.doing_of-self.ensures;
   begins = ap (λ (l : Listed). begins_of l c.args.busy.now) (sym c.in-Go.is);
   pieces = λ k h. absurd (no_pieces c.in-Some.listed k (ap body_of c.in-Go.is) h);
 })
@@ -44,7 +44,7 @@ pub returns-in-Arrive : goal.returns-in-Arrive
 returns-in-Arrive c = some c.in-Some.listed (record {
   stands = c.in-Some.ensures;
   behind = ap (λ n. c.args.self.now.at + n) c.width.ensures.value;
-  doing = c.doing-of-self.ensures;
+  doing = c.doing_of-self.ensures;
   begins = ap (λ (l : Listed). begins_of l c.args.busy.now) (sym c.in-Arrive.is);
   pieces = λ k h. absurd (no_pieces c.in-Some.listed k (ap body_of c.in-Arrive.is) h);
 })

@@ -6,6 +6,6 @@ pub returns : goal.returns
 returns c =
     let done = c.push.ensures in
     record {
-      routes = routes-pushed _ _ _ _ _ _ (omega arith) done.entries done.many c.take-out.ensures.routes;
-      more = omega (arith, c.take-out.ensures.fewer);
+      routes = routes-pushed _ _ _ _ _ _ (omega arith) done.entries done.many c.take_out.ensures.routes;
+      more = omega (arith, c.take_out.ensures.fewer);
     }

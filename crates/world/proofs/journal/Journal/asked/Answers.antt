@@ -8,12 +8,12 @@ use Rattle.world.proofs.journal.Journal.asked.Goals as goal
 pub returns-in-Find : goal.returns-in-Find
 unfolding pieces_of
 returns-in-Find c = record {
-  seen = λ t. c.asked-find.ensures.seen t ∙ ap (λ (k : Ask). Asked c.args.p k (pieces_of k c.args.pieces.now) ∷ seen_of c.args.self.now) (sym c.in-Find.is);
-  unseen = c.asked-find.ensures.unseen;
+  seen = λ t. c.asked_find.ensures.seen t ∙ ap (λ (k : Ask). Asked c.args.p k (pieces_of k c.args.pieces.now) ∷ seen_of c.args.self.now) (sym c.in-Find.is);
+  unseen = c.asked_find.ensures.unseen;
 }
 
 pub returns-in-Change : goal.returns-in-Change
 returns-in-Change c = record {
-  seen = λ t. c.asked-change.ensures.seen t ∙ ap (λ (k : Ask). Asked c.args.p k (pieces_of k c.args.pieces.now) ∷ seen_of c.args.self.now) (sym c.in-Change.is);
-  unseen = c.asked-change.ensures.unseen;
+  seen = λ t. c.asked_change.ensures.seen t ∙ ap (λ (k : Ask). Asked c.args.p k (pieces_of k c.args.pieces.now) ∷ seen_of c.args.self.now) (sym c.in-Change.is);
+  unseen = c.asked_change.ensures.unseen;
 }

@@ -8,7 +8,7 @@ pub returns : goal.returns
 returns c =
     let e : notes_of c.note-2.new.self ≡ first_word c.args.piece ∷ second_word c.args.piece ∷ notes_of c.args.self.now = cc in
     record {
-      read = λ n. ap (read_pieces _) e ∙ piece-read _ _ (notes_of c.args.self.now) c.args.piece c.second-word.ensures.back n;
+      read = λ n. ap (read_pieces _) e ∙ piece-read _ _ (notes_of c.args.self.now) c.args.piece c.second_word.ensures.back n;
       skipped = λ n. ap (skip_pieces _) e ∙ piece-skipped _ _ n _;
       kinds = cc;
       room = (omega arith, cc);

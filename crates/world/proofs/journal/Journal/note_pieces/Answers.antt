@@ -15,8 +15,8 @@ loop-k-preserved c =
     let m : c.args.count - (c.loop-k.k - 1) ≡ suc n = omega arith in
     let k : suc (c.loop-k.k - 1) ≡ c.loop-k.k = omega arith in
     let f = pieces_more c.args.count (c.loop-k.k - 1) c.args.pieces.now blank (omega arith) c.requires.0 in
-    let r = c.note-piece.ensures.read n in
-    let s = c.note-piece.ensures.skipped n in
+    let r = c.note_piece.ensures.read n in
+    let s = c.note_piece.ensures.skipped n in
     (cc, cc, cc, omega arith, cc)
 
 pub returns : goal.returns
@@ -27,5 +27,5 @@ returns c =
     let d : drop c.loop-k.k (take c.args.count c.args.pieces.now) ≡ take c.args.count c.args.pieces.now = rw z refl in
     record { read = cc; skipped = cc; kinds = i.2; room = (omega arith, i.4) }
 
-pub note-piece-requires : goal.note-piece-requires
-note-piece-requires c = omega arith
+pub note_piece-requires : goal.note_piece-requires
+note_piece-requires c = omega arith

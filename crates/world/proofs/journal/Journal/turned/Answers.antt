@@ -6,5 +6,5 @@ use Rattle.world.proofs.journal.Journal.turned.Goals as goal
 pub returns : goal.returns
 returns c =
     let e = turned-seen c.args.p (kinds_of c.args.self.now) (notes_of c.args.self.now) c.if-p-ge16.false in
-    let h = c.if-not-has-room.ensures in
+    let h = c.if-not-has_room.ensures in
     record { seen = λ t. cc; unseen = λ f. cc }

@@ -10,12 +10,12 @@ use Rattle.world.proofs.turn.ScheduledWorldWorld.next.Goals.{in-Begin+else-may-b
 pub loop-init : goal.loop-init
 loop-init g c = (rest _, refl)
 
-pub returns-then-may-begin : goal.returns-then-may-begin
-returns-then-may-begin g c = (next-arrived c.begin.result.1 c.begin.result.0 _ _ _ _ c.loop.invariant.0 c.loop.invariant.1 c.begin.ensures.next, turn-given c.begin.result.0 c.loop.invariant.0 c.begin.ensures.allowed)
+pub returns-then-may_begin : goal.returns-then-may_begin
+returns-then-may_begin g c = (next-arrived c.begin.result.1 c.begin.result.0 _ _ _ _ c.loop.invariant.0 c.loop.invariant.1 c.begin.ensures.next, turn-given c.begin.result.0 c.loop.invariant.0 c.begin.ensures.allowed)
 
-pub returns-then-may-go : goal.returns-then-may-go
-returns-then-may-go g c =
-    let h = c.if-may-go.ensures tt in
+pub returns-then-may_go : goal.returns-then-may_go
+returns-then-may_go g c =
+    let h = c.if-may_go.ensures tt in
     (next-arrived c.go.result.1 c.go.result.0 _ _ _ _ c.loop.invariant.0 c.loop.invariant.1 (next-go c.go.result _ _ _ _ _ c.go.ensures.next h.0 h.1 c.go.ensures.unseen), turn-given c.go.result.0 c.loop.invariant.0 c.go.ensures.allowed)
 
 pub loop-preserved : goal.loop-preserved

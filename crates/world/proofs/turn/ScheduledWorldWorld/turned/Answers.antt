@@ -1,5 +1,5 @@
 use Rattle.world.proofs.Marks.{marks-turned}
 use Rattle.world.proofs.turn.ScheduledWorldWorld.turned.Goals as goal
 
-pub invariant-of-self-2 : goal.invariant-of-self-2
-invariant-of-self-2 g c = (c.args.self.now.sixteen, (marks-turned _ _ _ c.args.p c.args.self.now.marks (c.if-not-turned.ensures.seen tt), tt))
+pub invariant_of-self-2 : goal.invariant_of-self-2
+invariant_of-self-2 g c = (c.args.self.now.sixteen, (marks-turned _ _ _ c.args.p c.args.self.now.marks (c.if-not-turned.ensures.seen tt), tt))

@@ -8,31 +8,18 @@ invariant_of-result c =
     let layout = c.args.layout in
     let some : 0 < layout.blocks = omega (arith, layout.least) in
     let marked = c.hold_first.ensures in
-    let stacked = c.stack_others.ensures in (
-      c.clear_first.auto.words ∙ c.requires.wide,
-      (
-        c.hold_first.auto.held ∙ c.requires.marked,
-        (
-          c.stack_others.auto.free ∙ c.requires.stacked,
-          (
-            c.clear_rows.auto.late ∙ c.requires.rowed,
-            (
-              refl,
-              (
-                start-free _ _ _ some marked stacked,
-                (
-                  start-apart _ _ _ some marked stacked,
-                  (
-                    start-count _ _ _ some marked stacked,
-                    (start-rows-in _ layout.roomy, (start-stores-in _ _ some c.clear_rows.ensures, tt)),
-                  ),
-                ),
-              ),
-            ),
-          ),
-        ),
-      ),
-    )
+    let stacked = c.stack_others.ensures in record {
+      wide = c.clear_first.auto.words ∙ c.requires.wide;
+      marked = c.hold_first.auto.held ∙ c.requires.marked;
+      stacked = c.stack_others.auto.free ∙ c.requires.stacked;
+      rowed = c.clear_rows.auto.late ∙ c.requires.rowed;
+      sixteen = refl;
+      unheld = start-free _ _ _ some marked stacked;
+      apart = start-apart _ _ _ some marked stacked;
+      counted = start-count _ _ _ some marked stacked;
+      inside = start-rows-in _ layout.roomy;
+      bound = start-stores-in _ _ some c.clear_rows.ensures;
+    }
 
 pub returns : goal.returns
 returns c =

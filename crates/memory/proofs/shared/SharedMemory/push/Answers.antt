@@ -14,34 +14,18 @@ invariant_of-self c =
     let self = c.args.self.now in
     let row = self.inside c.args.p in
     let less = row-short self.late.now self.layout.room self.rows c.args.p c.requires.room in
-    let inside = place_in self.layout.room c.args.p (get_or self.rows c.args.p no_row).first (get_or self.rows c.args.p no_row).many c.requires.whose row.0 less in (
-      self.wide,
-      (
-        self.marked,
-        (
-          self.stacked,
-          (
-            length-set _ _ _ ∙ self.rowed,
-            (
-              length-set _ _ _ ∙ self.sixteen,
-              (
-                self.unheld,
-                (
-                  self.apart,
-                  (
-                    self.counted,
-                    (
-                      rows-in-set _ _ _ _ self.inside (omega (arith, self.sixteen, c.requires.whose)) row.0 (omega arith),
-                      (stores-in-set _ _ _ _ self.bound (omega (arith, self.rowed, inside, c.place_of-at.ensures)) c.requires.target.0 c.requires.target.1 c.ranges.x.fits, tt),
-                    ),
-                  ),
-                ),
-              ),
-            ),
-          ),
-        ),
-      ),
-    )
+    let inside = place_in self.layout.room c.args.p (get_or self.rows c.args.p no_row).first (get_or self.rows c.args.p no_row).many c.requires.whose row.0 less in record {
+      wide = self.wide;
+      marked = self.marked;
+      stacked = self.stacked;
+      rowed = length-set _ _ _ ∙ self.rowed;
+      sixteen = length-set _ _ _ ∙ self.sixteen;
+      unheld = self.unheld;
+      apart = self.apart;
+      counted = self.counted;
+      inside = rows-in-set _ _ _ _ self.inside (omega (arith, self.sixteen, c.requires.whose)) row.0 (omega arith);
+      bound = stores-in-set _ _ _ _ self.bound (omega (arith, self.rowed, inside, c.place_of-at.ensures)) c.requires.target.0 c.requires.target.1 c.ranges.x.fits;
+    }
 
 pub returns : goal.returns
 returns c =

@@ -14,31 +14,18 @@ pub invariant_of-self-2 : goal.invariant_of-self-2
 invariant_of-self-2 c =
     let self = c.args.self.now in
     let held = T_true _ c.requires.held in
-    let room : self.free_count < length self.free.now = omega (arith, self.stacked, stack-room _ _ _ _ self.marked self.unheld self.apart self.counted c.args.block c.requires.inside held) in (
-      self.wide,
-      (
-        length-set _ _ _ ∙ self.marked,
-        (
-          length-set _ _ _ ∙ self.stacked,
-          (
-            self.rowed,
-            (
-              self.sixteen,
-              (
-                released-free _ _ _ _ self.marked self.unheld self.apart self.counted _ c.requires.inside held room,
-                (
-                  released-apart _ _ _ _ self.marked self.unheld self.apart self.counted _ held room,
-                  (
-                    released-count _ _ _ _ self.marked self.unheld self.apart self.counted _ c.requires.inside held,
-                    (self.inside, (self.bound, tt)),
-                  ),
-                ),
-              ),
-            ),
-          ),
-        ),
-      ),
-    )
+    let room : self.free_count < length self.free.now = omega (arith, self.stacked, stack-room _ _ _ _ self.marked self.unheld self.apart self.counted c.args.block c.requires.inside held) in record {
+      wide = self.wide;
+      marked = length-set _ _ _ ∙ self.marked;
+      stacked = length-set _ _ _ ∙ self.stacked;
+      rowed = self.rowed;
+      sixteen = self.sixteen;
+      unheld = released-free _ _ _ _ self.marked self.unheld self.apart self.counted _ c.requires.inside held room;
+      apart = released-apart _ _ _ _ self.marked self.unheld self.apart self.counted _ held room;
+      counted = released-count _ _ _ _ self.marked self.unheld self.apart self.counted _ c.requires.inside held;
+      inside = self.inside;
+      bound = self.bound;
+    }
 
 pub returns : goal.returns
 returns c = arrives-same (sym (mark_set _ _ _ _ _ _ _ _ _ _ _ (omega (arith, c.args.self.now.marked, c.requires.inside))))

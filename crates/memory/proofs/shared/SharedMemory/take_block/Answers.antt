@@ -10,31 +10,18 @@ pub invariant_of-self-in-Some : goal.invariant_of-self-in-Some
 invariant_of-self-in-Some c =
     let self = c.args.self.now in
     let top = c.in-Some.ensures.top in
-    let free = c.in-Some.ensures.free in (
-      self.wide,
-      (
-        length-set _ _ _ ∙ self.marked,
-        (
-          self.stacked,
-          (
-            self.rowed,
-            (
-              self.sixteen,
-              (
-                obtained-free _ _ _ _ self.marked self.unheld self.apart self.counted _ top.0 top.1,
-                (
-                  obtained-apart _ _ _ _ self.marked self.unheld self.apart self.counted,
-                  (
-                    obtained-count _ _ _ _ self.marked self.unheld self.apart self.counted _ top.0 free.0 free.1,
-                    (self.inside, (self.bound, tt)),
-                  ),
-                ),
-              ),
-            ),
-          ),
-        ),
-      ),
-    )
+    let free = c.in-Some.ensures.free in record {
+      wide = self.wide;
+      marked = length-set _ _ _ ∙ self.marked;
+      stacked = self.stacked;
+      rowed = self.rowed;
+      sixteen = self.sixteen;
+      unheld = obtained-free _ _ _ _ self.marked self.unheld self.apart self.counted _ top.0 top.1;
+      apart = obtained-apart _ _ _ _ self.marked self.unheld self.apart self.counted;
+      counted = obtained-count _ _ _ _ self.marked self.unheld self.apart self.counted _ top.0 free.0 free.1;
+      inside = self.inside;
+      bound = self.bound;
+    }
 
 pub returns-in-Some : goal.returns-in-Some
 returns-in-Some c =

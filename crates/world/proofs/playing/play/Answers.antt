@@ -3,4 +3,4 @@ use Rattle.world.proofs.Marks.{marks-none}
 use Rattle.world.proofs.playing.play.Goals as goal
 
 pub invariant_of-world : goal.invariant_of-world
-invariant_of-world g c = (refl, (marks-none _ c.requires.starts.1, tt))
+invariant_of-world g c = record { sixteen = refl; marks = marks-none _ c.requires.starts.1 }

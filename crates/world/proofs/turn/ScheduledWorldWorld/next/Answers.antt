@@ -5,7 +5,7 @@ use Rattle.memory.specs.Memories.{mem_of}
 use Rattle.world.specs.Journals.{seen_of}
 use Rattle.world.proofs.Turns.{next-arrived, next-over, next-go, turn-given}
 use Rattle.world.proofs.turn.ScheduledWorldWorld.next.Goals as goal
-use Rattle.world.proofs.turn.ScheduledWorldWorld.next.Goals.{in-Begin+else-may-begin, in-Go+else-may-go, in-Arrive, else-loop-test, then-loop-test+in-Over}
+use Rattle.world.proofs.turn.ScheduledWorldWorld.next.Goals.{in-Begin+else-may_begin, in-Go+else-may_go, in-Arrive, else-loop-test, then-loop-test+in-Over}
 
 pub loop-init : goal.loop-init
 loop-init g c = (rest _, refl)
@@ -20,8 +20,8 @@ returns-then-may_go g c =
 
 pub loop-preserved : goal.loop-preserved
 loop-preserved g c = elim c.match-next.branch [
-  | in-Begin+else-may-begin w ↦ rw w.self-is c.loop.invariant
-  | in-Go+else-may-go w ↦ rw w.self-is c.loop.invariant
+  | in-Begin+else-may_begin w ↦ rw w.self-is c.loop.invariant
+  | in-Go+else-may_go w ↦ rw w.self-is c.loop.invariant
   | in-Arrive w ↦ rw w.self-is (arrives-on c.loop.invariant.0 w.arrive.ensures.arrives, w.arrive.ensures.unseen ∙ c.loop.invariant.1)
 ]
 

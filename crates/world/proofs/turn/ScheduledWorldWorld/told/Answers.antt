@@ -5,4 +5,4 @@ use Rattle.world.proofs.turn.ScheduledWorldWorld.told.Goals as goal
 pub invariant_of-self-2 : goal.invariant_of-self-2
 invariant_of-self-2 g c =
     let h = c.if-not-told.ensures.seen tt in
-    (simp length-set c.args.self.now.sixteen, (marks-told _ _ _ c.args.p _ c.args.self.now.marks c.args.self.now.sixteen h.0 h.1, tt))
+    record { sixteen = simp length-set c.args.self.now.sixteen; marks = marks-told _ _ _ c.args.p _ c.args.self.now.marks c.args.self.now.sixteen h.0 h.1 }

@@ -3,7 +3,7 @@ use Rattle.memory.proofs.Arrivals.{arrives-oldest, fence-step}
 use Rattle.world.proofs.world.ScheduledWorld.arrive.Goals as goal
 
 pub returns-in-Some : goal.returns-in-Some
-returns-in-Some g c = record { arrives = arrives-oldest c.args.p c.arrive.ensures.arrives; still = fence-step c.args.p _ _ c.arrive.ensures.arrives; unseen = refl }
+returns-in-Some g c = record { arrives = arrives-oldest c.args.p c.arrive_oldest.ensures.arrives; still = fence-step c.args.p _ _ c.arrive_oldest.ensures.arrives; unseen = refl }
 
 pub returns-in-None : goal.returns-in-None
-returns-in-None g c = record { arrives = arrives-oldest c.args.p c.arrive.ensures.arrives; still = fence-step c.args.p _ _ c.arrive.ensures.arrives; unseen = refl }
+returns-in-None g c = record { arrives = arrives-oldest c.args.p c.arrive_oldest.ensures.arrives; still = fence-step c.args.p _ _ c.arrive_oldest.ensures.arrives; unseen = refl }

@@ -7,7 +7,7 @@ pub returns-then-not-asked : goal.returns-then-not-asked
 returns-then-not-asked g c = record { next = next-over c.stop.result _ _ _ _ c.stop.ensures.next (c.stop.ensures.unseen ∙ c.asked.ensures.unseen c.if-not-asked.true); allowed = c.stop.ensures.allowed }
 
 pub invariant_of-self-2 : goal.invariant_of-self-2
-invariant_of-self-2 g c = (simp length-set c.args.self.now.sixteen, (marks-asked _ _ _ c.args.p c.args.ask _ c.args.self.now.marks c.args.self.now.sixteen (omega (arith, c.args.self.now.memory.now.layout.few)) (c.if-not-asked.ensures.seen tt), tt))
+invariant_of-self-2 g c = record { sixteen = simp length-set c.args.self.now.sixteen; marks = marks-asked _ _ _ c.args.p c.args.ask _ c.args.self.now.marks c.args.self.now.sixteen (omega (arith, c.args.self.now.memory.now.layout.few)) (c.if-not-asked.ensures.seen tt) }
 
 pub returns : goal.returns
 returns g c = record { next = next-begin c.args.ask c.args.p _ _ _ _ c.requires.0 c.requires.1.0 (c.if-not-asked.ensures.seen tt); allowed = c.allow.ensures }

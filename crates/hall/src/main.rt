@@ -19,7 +19,7 @@ use std::rt::Files;
 use stop::{Complaint, Stop};
 
 // A script went wrong, which has been said on standard error.
-#[derive(Clone, Copy)]
+#[derive(Debug, Clone, Copy, Drop)]
 struct Failed;
 
 // Says on standard error why a script stopped, and fails if that is an error.

@@ -5,10 +5,10 @@ ghost use Rattle.script.specs.Lines.{go_of, on_of, any_of, arrive_of, find_of, c
 use crate::bytes::{Kind, all_of};
 use crate::expected::Expected;
 use crate::keyword::{Keyword, keyword_of};
+use crate::line_words::Words;
 use crate::numbers::address;
 use crate::pieces::{BLANK, read_change};
 use crate::reading::{read_count, read_processor, read_seed};
-use crate::words::Words;
 use routes::{Ask, Piece};
 
 #[derive(Clone, Copy)]

@@ -6,11 +6,11 @@ mod command;
 mod expected;
 mod keyword;
 mod line;
+mod line_words;
 mod numbers;
 mod pieces;
 mod reading;
 mod shown;
-mod words;
 
 pub use command::{Command, Line};
 pub use expected::Expected;

@@ -5,7 +5,7 @@ ghost use Rattle.script.specs.Lines.{Lacks, FirstAt, chomped, line_of};
 use crate::bytes::{Kind, front_len};
 use crate::command::{Line, read_command};
 use crate::expected::Expected;
-use crate::words::Words;
+use crate::line_words::Words;
 
 // Where the first newline stands.
 pub fn line_end(text: &[u8]) -> Option<usize>

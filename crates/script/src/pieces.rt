@@ -6,8 +6,8 @@ ghost use Rattle.script.specs.Pieces.{parts, parts_after, put_of, take_of, piece
 use crate::bytes::{Kind, front_len};
 use crate::expected::Expected;
 use crate::keyword::{Keyword, keyword_of};
+use crate::line_words::Words;
 use crate::reading::{read_count, read_prefix};
-use crate::words::Words;
 use routes::Piece;
 
 // What stands where there is no piece.

@@ -1,6 +1,6 @@
 -- Commands that are shown are read back.
 use Rattle.std.proofs.Common.{◌≡◌, ℕ, ◌-◌, ◌^◌, ◌<◌, false, List, [], ◌∷◌, ◌++◌, map, length, get_or, take, replicate, Ok, codes, decimal, All, refl, ap, ◌∙◌, arith, lit<}
-use Rattle.std.proofs.lemmas.List.Elements.{All-append, All-weaker, All-get_or}
+use Rattle.std.proofs.lemmas.List.Elements.{All-head, All-tail, All-from_recursion, All-append, All-weaker, All-get_or}
 use Rattle.std.proofs.lemmas.List.{length-take-le}
 use Rattle.std.proofs.lemmas.Bool.{ne_eqb}
 use Rattle.std.specs.Option.{ok_or}
@@ -42,19 +42,19 @@ sentence-back cpus w ws c p ps other h =
     line-back cpus w (after 32 ws) c p (all_after (λ b. 13 < b) 32 ws (lit< tt) (all-high (λ b. 13 < b) (λ x l. omega arith) ws ps)) (stops ws) other h
 
 go_plain : Plain (codes "go")
-go_plain = record { some = lit< tt; high = (lit< tt, (lit< tt, tt)) }
+go_plain = record { some = lit< tt; high = All-from_recursion (λ b. 44 < b) (codes "go") (lit< tt, (lit< tt, tt)) }
 
 on-plain : Plain (codes "on")
-on-plain = record { some = lit< tt; high = (lit< tt, (lit< tt, tt)) }
+on-plain = record { some = lit< tt; high = All-from_recursion (λ b. 44 < b) (codes "on") (lit< tt, (lit< tt, tt)) }
 
 any-plain : Plain (codes "any")
-any-plain = record { some = lit< tt; high = (lit< tt, (lit< tt, (lit< tt, tt))) }
+any-plain = record { some = lit< tt; high = All-from_recursion (λ b. 44 < b) (codes "any") (lit< tt, (lit< tt, (lit< tt, tt))) }
 
 arrive-plain : Plain (codes "arrive")
-arrive-plain = record { some = lit< tt; high = (lit< tt, (lit< tt, (lit< tt, (lit< tt, (lit< tt, (lit< tt, tt)))))) }
+arrive-plain = record { some = lit< tt; high = All-from_recursion (λ b. 44 < b) (codes "arrive") (lit< tt, (lit< tt, (lit< tt, (lit< tt, (lit< tt, (lit< tt, tt)))))) }
 
 find-plain : Plain (codes "find")
-find-plain = record { some = lit< tt; high = (lit< tt, (lit< tt, (lit< tt, (lit< tt, tt)))) }
+find-plain = record { some = lit< tt; high = All-from_recursion (λ b. 44 < b) (codes "find") (lit< tt, (lit< tt, (lit< tt, (lit< tt, tt)))) }
 
 -- A number below 2 ^ 32 is read back.
 count-back : (n : ℕ) → n < 2 ^ 32 → count_of (decimal n) ≡ Ok n
@@ -80,7 +80,8 @@ module _ (cpus : ℕ) (few : cpus < 256) where
       let plain = hexadecimal-plain 8 a (lit< tt) in
       let r = reads-after (codes "find") (hexadecimal 8 a ∷ []) find-plain in
       let told : ok_or (address_of (hexadecimal 8 a)) expected.Address ≡ Ok a = ap (λ o. ok_or o expected.Address) (address-back a b) in
-      sentence-back cpus (decimal p) (codes "find" ∷ hexadecimal 8 a ∷ []) _ (cpu-plain p h) (find-plain, (plain, tt)) (decimal-other p (omega arith)).1
+      let each = All-from_recursion Plain (codes "find" ∷ hexadecimal 8 a ∷ []) (find-plain, (plain, tt)) in
+      sentence-back cpus (decimal p) (codes "find" ∷ hexadecimal 8 a ∷ []) _ (cpu-plain p h) each (decimal-other p (omega arith)).1
       (begin-back p _ _ h (rw (r.0, r.1) (one-back (λ w. ok_or (address_of w) expected.Address) expected.End (λ x. Begin p (Find x) (replicate 8 blank_piece)) (hexadecimal 8 a) a plain told)))
 
   change-back : (p n : ℕ) (ps : List Piece) → p < cpus → FitsChange n ps → line_of cpus (decimal p ++ shown_pieces (take n ps)) ≡ Ok (line.Command (Begin p (Change n) ps))
@@ -91,7 +92,9 @@ module _ (cpus : ℕ) (few : cpus < 256) where
       by (q ∷ qs) some g e =
           let all = pieces-all (λ b. 13 < b) (lit< tt) (λ x l. omega arith) (q ∷ qs) g in
           let others = after 44 (map shown_piece qs) in
-          let sound = All-append (λ b. 13 < b) (shown_piece q) others all.0 (all_after (λ b. 13 < b) 44 (map shown_piece qs) (lit< tt) all.1) in
+          let first = All-head (All (λ b. 13 < b)) (shown_piece q) (map shown_piece qs) all in
+          let behind = All-tail (All (λ b. 13 < b)) (shown_piece q) (map shown_piece qs) all in
+          let sound = All-append (λ b. 13 < b) (shown_piece q) others first (all_after (λ b. 13 < b) 44 (map shown_piece qs) (lit< tt) behind) in
           line-back cpus (decimal p) (shown_pieces (q ∷ qs)) _ (cpu-plain p h) sound (piece-stops q others) (decimal-other p (omega arith)).1
           (begin-back p _ _ h (asks-change p q others ∙ rw e refl))
 
@@ -99,16 +102,20 @@ module _ (cpus : ℕ) (few : cpus < 256) where
   read_back (Begin p (Find a) ps) f = rw f.1.1 (find-back p a f.0 f.1.0)
   read_back (Begin p (Change n) ps) f = change-back p n ps f.0 f.1
   read_back (Go p n) f =
-      sentence-back cpus (codes "go") (decimal p ∷ decimal n ∷ []) _ go_plain (cpu-plain p f.0, (count-plain n f.1, tt)) refl
+      let each = All-from_recursion Plain (decimal p ∷ decimal n ∷ []) (cpu-plain p f.0, (count-plain n f.1, tt)) in
+      sentence-back cpus (codes "go") (decimal p ∷ decimal n ∷ []) _ go_plain each refl
       (two_back (processor_of cpus) count_of expected.End Go _ _ p n (cpu-plain p f.0) (count-plain n f.1) (cpu-back p f.0) (count-back n f.1))
   read_back (On p) f =
-      sentence-back cpus (codes "on") (decimal p ∷ []) _ on-plain (cpu-plain p f, tt) refl
+      let each = All-from_recursion Plain (decimal p ∷ []) (cpu-plain p f, tt) in
+      sentence-back cpus (codes "on") (decimal p ∷ []) _ on-plain each refl
       (one-back (processor_of cpus) expected.End On _ p (cpu-plain p f) (cpu-back p f))
   read_back (Any s n) f =
-      sentence-back cpus (codes "any") (decimal s ∷ decimal n ∷ []) _ any-plain (decimal-plain s f.0, (count-plain n f.1, tt)) refl
+      let each = All-from_recursion Plain (decimal s ∷ decimal n ∷ []) (decimal-plain s f.0, (count-plain n f.1, tt)) in
+      sentence-back cpus (codes "any") (decimal s ∷ decimal n ∷ []) _ any-plain each refl
       (two_back seed_of count_of expected.End Any _ _ s n (decimal-plain s f.0) (count-plain n f.1) (decimal-below s f.0 (2 ^ 64) expected.Seed f.0) (count-back n f.1))
   read_back (Arrive p n) f =
-      sentence-back cpus (codes "arrive") (decimal p ∷ decimal n ∷ []) _ arrive-plain (cpu-plain p f.0, (count-plain n f.1, tt)) refl
+      let each = All-from_recursion Plain (decimal p ∷ decimal n ∷ []) (cpu-plain p f.0, (count-plain n f.1, tt)) in
+      sentence-back cpus (codes "arrive") (decimal p ∷ decimal n ∷ []) _ arrive-plain each refl
       (two_back (processor_of cpus) count_of expected.End Arrive _ _ p n (cpu-plain p f.0) (count-plain n f.1) (cpu-back p f.0) (count-back n f.1))
 
 -- The promise.

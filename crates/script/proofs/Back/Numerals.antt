@@ -1,8 +1,8 @@
 -- Numbers that are shown are read back.
-use Rattle.std.proofs.Common.{◌≡◌, ℕ, zero, suc, ◌+◌, ◌*◌, ◌/◌, ◌%◌, ◌^◌, ◌<◌, true, false, cond, eqb, List, [], ◌∷◌, ◌++◌, length, get_or, take, drop, Some, None, Ok, Err, decimal, All, sym, refl, ap, ◌∙◌, pow-suc, arith, lit<}
+use Rattle.std.proofs.Common.{◌≡◌, ℕ, zero, suc, ◌*◌, ◌/◌, ◌%◌, ◌^◌, ◌<◌, true, false, cond, eqb, List, [], ◌∷◌, ◌++◌, length, get_or, take, drop, Some, None, Ok, Err, decimal, All, sym, refl, ap, ◌∙◌, pow-suc, arith, lit<}
 use Rattle.std.proofs.lemmas.Fmt.{decimal_is_IsNumeral}
 use Rattle.std.proofs.lemmas.Int.Digits.{digits_value_push, digits_push}
-use Rattle.std.proofs.lemmas.List.Elements.{All-append}
+use Rattle.std.proofs.lemmas.List.Elements.{All-nil, All-cons, All-push, All-append}
 use Rattle.std.proofs.lemmas.List.{length_push, length-append, take_at, drop_at, drop-drop, get_or_at}
 use Rattle.std.proofs.lemmas.Str.Parse.{digit_from_value}
 use Rattle.std.proofs.lemmas.Bool.{lt-ltb, eq-eqb, and_from}
@@ -32,8 +32,8 @@ all_digits r t some h = and_from _ _ (lt-ltb _ _ some) (eq-eqb _ _ (front-digits
 
 -- Decimal digits stand behind the comma.
 digits-high : (t : List ℕ) → AllDigits 10 t → All (λ b. 44 < b) t
-digits-high [] h = tt
-digits-high (c ∷ cs) h = (omega (arith, digit_from_value c h.0), digits-high cs h.1)
+digits-high [] h = All-nil (λ b. 44 < b)
+digits-high (c ∷ cs) h = All-cons (λ b. 44 < b) c cs (omega (arith, digit_from_value c h.0)) (digits-high cs h.1)
 
 module _ (n : ℕ) (fits : n < 2 ^ 64) where
   digits : AllDigits 10 (decimal n)
@@ -75,11 +75,11 @@ digit-back d h = (grind (arith, nat_tests), grind (arith, nat_tests))
 
 digits-hexadecimal : (k n : ℕ) → AllDigits 16 (hexadecimal k n) × All (λ b. 44 < b) (hexadecimal k n)
 unfolding hexadecimal
-digits-hexadecimal zero n = (tt, tt)
+digits-hexadecimal zero n = (tt, All-nil (λ b. 44 < b))
 digits-hexadecimal (suc k) n =
     let back = digit-back (n % 16) (omega arith) in
     let ih = digits-hexadecimal k (n / 16) in
-    (digits_push 16 (hexadecimal k (n / 16)) _ ih.0 (omega arith), All-append (λ b. 44 < b) (hexadecimal k (n / 16)) _ ih.1 (back.1, tt))
+    (digits_push 16 (hexadecimal k (n / 16)) _ ih.0 (omega arith), All-push (λ b. 44 < b) (hexadecimal k (n / 16)) _ ih.1 back.1)
 
 -- Digits of a number that has no more write the number.
 value-hexadecimal : (k n : ℕ) → n < 16 ^ k → digits_value 16 (hexadecimal k n) ≡ n
@@ -105,7 +105,7 @@ module _ (bits len : ℕ) (b : bits < 2 ^ 32) (l : len < 256) where
   pub prefix-plain : Plain (shown_prefix bits len)
   prefix-plain = record {
     some = omega (arith, length-append (hexadecimal 8 bits) (47 ∷ decimal len));
-    high = All-append (λ b. 44 < b) (hexadecimal 8 bits) (47 ∷ decimal len) (digits-hexadecimal 8 bits).1 (lit< tt, (decimal-plain len (omega arith)).high);
+    high = All-append (λ b. 44 < b) (hexadecimal 8 bits) (47 ∷ decimal len) (digits-hexadecimal 8 bits).1 (All-cons (λ b. 44 < b) 47 (decimal len) (lit< tt) (decimal-plain len (omega arith)).high);
   }
 
   -- A prefix is read back.

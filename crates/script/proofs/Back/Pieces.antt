@@ -1,8 +1,8 @@
 -- Pieces that are shown are read back.
 use Rattle.std.proofs.Common.{◌≡◌, ℕ, suc, ◌+◌, ◌-◌, ◌^◌, ◌<◌, ◌≤◌, min, Bool, true, false, eqb, List, [], ◌∷◌, ◌++◌, map, length, take, set, replicate, Ok, codes, decimal, fold, All, sym, refl, ap, ◌∙◌, append_assoc, append-nil, zero-add, arith, lit<}
+use Rattle.std.proofs.lemmas.List.Elements.{All-nil, All-cons, All-head, All-tail, All-from_recursion}
 use Rattle.std.proofs.lemmas.List.{length_push, length-take-le, set_at, take-append-drop}
 use Rattle.std.proofs.lemmas.Bool.{ne_eqb}
-use Rattle.std.proofs.lemmas.Bool.Decides.{nat_tests}
 use Rattle.routes.specs.declared.Piece.{Piece}
 use Rattle.script.specs.declared.bytes.Kind.TheVariants.{Letter}
 use Rattle.script.specs.declared.expected.Expected.TheVariants as expected
@@ -17,10 +17,10 @@ use Rattle.script.proofs.Back.Plain.{Plain, all_after, all-high, reads-next}
 use Rattle.script.proofs.Back.Sentences.{reads-after, one-back, two_back}
 
 put-plain : Plain (codes "put")
-put-plain = record { some = lit< tt; high = (lit< tt, (lit< tt, (lit< tt, tt))) }
+put-plain = record { some = lit< tt; high = All-from_recursion (λ b. 44 < b) (codes "put") (lit< tt, (lit< tt, (lit< tt, tt))) }
 
 take-plain : Plain (codes "take")
-take-plain = record { some = lit< tt; high = (lit< tt, (lit< tt, (lit< tt, (lit< tt, tt)))) }
+take-plain = record { some = lit< tt; high = All-from_recursion (λ b. 44 < b) (codes "take") (lit< tt, (lit< tt, (lit< tt, (lit< tt, tt)))) }
 
 module _ (p : Piece) (f : FitsPiece p) where
   prefix-word : Plain (shown_prefix p.bits p.len)
@@ -31,8 +31,8 @@ module _ (p : Piece) (f : FitsPiece p) where
   piece-plain = by p.puts
     where
       by : (b : Bool) → All Plain (piece_words (record { puts = b; len = p.len; bits = p.bits; tells = p.tells }))
-      by true = (put-plain, (prefix-word, (decimal-plain p.tells (omega (arith, f.tells)), tt)))
-      by false = (take-plain, (prefix-word, tt))
+      by true = All-from_recursion Plain (codes "put" ∷ shown_prefix p.bits p.len ∷ decimal p.tells ∷ []) (put-plain, (prefix-word, (decimal-plain p.tells (omega (arith, f.tells)), tt)))
+      by false = All-from_recursion Plain (codes "take" ∷ shown_prefix p.bits p.len ∷ []) (take-plain, (prefix-word, tt))
 
   -- A piece is read back.
   pub piece_back : piece_of (shown_piece p) ≡ Ok p
@@ -50,8 +50,12 @@ module _ (p : Piece) (f : FitsPiece p) where
 part-back : (t : List ℕ) (ts : List (List ℕ)) → All (λ b. eqb b 44 ≡ false) t → All (All (λ b. eqb b 44 ≡ false)) ts → parts (t ++ after 44 ts) ≡ t ∷ ts
 unfolding parts after
 part-back [] [] h hs = refl
-part-back [] (u ∷ ts) h hs = ap (λ ps. [] ∷ ps) (part-back u ts hs.0 hs.1)
-part-back (c ∷ cs) ts h hs = rw h.0 (rw (part-back cs ts h.1 hs) refl)
+part-back [] (u ∷ ts) h hs =
+    let P : ℕ → Type 0 = λ b. eqb b 44 ≡ false in
+    ap (λ ps. [] ∷ ps) (part-back u ts (All-head (All P) u ts hs) (All-tail (All P) u ts hs))
+part-back (c ∷ cs) ts h hs =
+    let P : ℕ → Type 0 = λ b. eqb b 44 ≡ false in
+    rw (All-head P c cs h) (rw (part-back cs ts (All-tail P c cs h) hs) refl)
 
 -- What holds of a blank and of all that stands behind the comma holds of each byte of a piece.
 pub piece-all : (P : ℕ → Type 0) → P 32 → ((x : ℕ) → 44 < x → P x) → (p : Piece) → FitsPiece p → All P (shown_piece p)
@@ -59,20 +63,24 @@ piece-all P here high p f = all_after P 32 (piece_words p) here (all-high P high
 
 -- The same of some pieces.
 pub pieces-all : (P : ℕ → Type 0) → P 32 → ((x : ℕ) → 44 < x → P x) → (ps : List Piece) → All FitsPiece ps → All (All P) (map shown_piece ps)
-pieces-all P here high [] f = tt
-pieces-all P here high (p ∷ ps) f = (piece-all P here high p f.0, pieces-all P here high ps f.1)
+pieces-all P here high [] f = All-nil (All P)
+pieces-all P here high (p ∷ ps) f =
+    let first = piece-all P here high p (All-head FitsPiece p ps f) in
+    All-cons (All P) (shown_piece p) (map shown_piece ps) first (pieces-all P here high ps (All-tail FitsPiece p ps f))
 
 -- Pieces with commas between them are parted again.
 pieces-parted : (p : Piece) (ps : List Piece) → All FitsPiece (p ∷ ps) → parts (shown_pieces (p ∷ ps)) ≡ map shown_piece (p ∷ ps)
 pieces-parted p ps f =
-    let whole = pieces-all (λ b. eqb b 44 ≡ false) refl (λ x h. ne_eqb x 44 (omega arith)) (p ∷ ps) f in
-    part-back (shown_piece p) (map shown_piece ps) whole.0 whole.1
+    let P : ℕ → Type 0 = λ b. eqb b 44 ≡ false in
+    let whole = pieces-all P refl (λ x h. ne_eqb x 44 (omega arith)) (p ∷ ps) f in
+    let first = All-head (All P) (shown_piece p) (map shown_piece ps) whole in
+    part-back (shown_piece p) (map shown_piece ps) first (All-tail (All P) (shown_piece p) (map shown_piece ps) whole)
 
 -- Each is read back and gathered.
 pieces-gathered : (c : Change) (ps : List Piece) → All FitsPiece ps → gathered c (map shown_piece ps) ≡ Ok (fold with_piece c ps)
 unfolding gathered
 pieces-gathered c [] f = refl
-pieces-gathered c (p ∷ ps) f = rw (piece_back p f.0) (pieces-gathered (with_piece c p) ps f.1)
+pieces-gathered c (p ∷ ps) f = rw (piece_back p (All-head FitsPiece p ps f)) (pieces-gathered (with_piece c p) ps (All-tail FitsPiece p ps f))
 
 -- a row that begins with ps, with so many blank pieces behind
 abbrev row : List Piece → ℕ → Change

@@ -1,6 +1,6 @@
 -- Words that are read back from where they are shown: some bytes, each behind the blanks, the comma and the carriage return.
 use Rattle.std.proofs.Common.{◌≡◌, ℕ, ◌+◌, ◌<◌, true, false, List, [], ◌∷◌, ◌++◌, length, All, refl, ◌∙◌, one-add, arith}
-use Rattle.std.proofs.lemmas.List.Elements.{All-append, All-weaker}
+use Rattle.std.proofs.lemmas.List.Elements.{All-nil, All-cons, All-head, All-tail, All-append, All-weaker}
 use Rattle.std.proofs.lemmas.List.{take_at, drop_at}
 use Rattle.std.proofs.lemmas.Bool.Decides.{nat_tests}
 use Rattle.script.specs.declared.bytes.Kind.TheVariants.{Blank, Letter}
@@ -16,8 +16,8 @@ pub record Plain (w : List ℕ) : Type 0 where
 letters : (w t : List ℕ) → All (λ b. 44 < b) w → front_of Letter (w ++ t) ≡ length w + front_of Letter t
 letters [] t h = omega arith
 letters (c ∷ cs) t h =
-    let is : is_of Letter c ≡ true = (let high = h.0 in grind (arith, nat_tests)) in
-    rw is (omega (arith, letters cs t h.1))
+    let is : is_of Letter c ≡ true = (let high = All-head (λ b. 44 < b) c cs h in grind (arith, nat_tests)) in
+    rw is (omega (arith, letters cs t (All-tail (λ b. 44 < b) c cs h)))
 
 -- A word with a blank, a comma or nothing behind it is read, and what follows is left.
 pub reads : (w t : List ℕ) → Plain w → front_of Letter t ≡ 0 → (word (w ++ t) ≡ w) × (past (w ++ t) ≡ t)
@@ -25,7 +25,7 @@ unfolding word past
 reads [] t p ends = absurd (omega (arith, p.some))
 reads (c ∷ cs) t p ends =
     let w = c ∷ cs in
-    let high = p.high.0 in
+    let high = All-head (λ b. 44 < b) c cs p.high in
     let solid : is_of Blank c ≡ false = grind (arith, nat_tests) in
     let long : extent (w ++ t) ≡ length w = (let front = letters w t p.high in grind (arith, nat_tests)) in
     rw (solid, long) (take_at w t _ refl, drop_at w t _ refl)
@@ -48,10 +48,14 @@ stops (w ∷ ws) = refl
 -- What holds of the byte between and of each other byte holds of all.
 pub all_after : (P : ℕ → Type 0) (b : ℕ) (ws : List (List ℕ)) → P b → All (All P) ws → All P (after b ws)
 unfolding after
-all_after P b [] here h = tt
-all_after P b (w ∷ ws) here h = (here, All-append P w (after b ws) h.0 (all_after P b ws here h.1))
+all_after P b [] here h = All-nil P
+all_after P b (w ∷ ws) here h =
+    let behind = all_after P b ws here (All-tail (All P) w ws h) in
+    All-cons P b (w ++ after b ws) here (All-append P w (after b ws) (All-head (All P) w ws h) behind)
 
 -- What holds of all that stands behind the comma holds of each byte of such words.
 pub all-high : (P : ℕ → Type 0) → ((x : ℕ) → 44 < x → P x) → (ws : List (List ℕ)) → All Plain ws → All (All P) ws
-all-high P high [] h = tt
-all-high P high (w ∷ ws) h = (All-weaker (λ x. 44 < x) P high w h.0.high, all-high P high ws h.1)
+all-high P high [] h = All-nil (All P)
+all-high P high (w ∷ ws) h =
+    let first = All-weaker (λ x. 44 < x) P high w (All-head Plain w ws h).high in
+    All-cons (All P) w ws first (all-high P high ws (All-tail Plain w ws h))

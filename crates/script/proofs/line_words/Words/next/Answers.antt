@@ -1,6 +1,6 @@
 use Rattle.std.proofs.Common.{◌≡◌, take, drop, ap, ◌∙◌}
 use Rattle.script.specs.Words.{word, past, started, extent}
-use Rattle.script.proofs.words.Words.next.Goals as goal
+use Rattle.script.proofs.line_words.Words.next.Goals as goal
 
 pub returns : goal.returns
 unfolding word past

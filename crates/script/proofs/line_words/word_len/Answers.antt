@@ -1,8 +1,8 @@
 use Rattle.std.proofs.Common.{arith}
 use Rattle.std.proofs.lemmas.List.{get_or_past}
 use Rattle.std.proofs.lemmas.Bool.Decides.{nat_tests}
-use Rattle.script.proofs.words.word_len.Goals as goal
-use Rattle.script.proofs.words.word_len.Goals.{else-text-gt0-via-then-text-gt0+else-text-eq44, else-text-gt0-via-else-text-gt0}
+use Rattle.script.proofs.line_words.word_len.Goals as goal
+use Rattle.script.proofs.line_words.word_len.Goals.{else-text-gt0-via-then-text-gt0+else-text-eq44, else-text-gt0-via-else-text-gt0}
 
 pub returns-else-text-gt0 : goal.returns-else-text-gt0
 returns-else-text-gt0 c =

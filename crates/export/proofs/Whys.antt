@@ -9,7 +9,7 @@ use Rattle.port.specs.Registers.{cpu_of}
 use Rattle.port.specs.Replies.{ReplyFits}
 use Rattle.port.specs.Turns.{Sound, Wrong}
 use Rattle.export.specs.declared.refusal.Refusal.{Refusal}
-use Rattle.export.specs.declared.refusal.Refusal.TheVariants.{Number, Length, Registers, Value, Busy}
+use Rattle.export.specs.declared.refusal.Refusal.TheVariants.{Length}
 use Rattle.export.specs.Calls.{found, loaded, refusal_of}
 use Rattle.export.specs.Turns.{WhyNot}
 

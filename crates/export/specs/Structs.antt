@@ -1,6 +1,6 @@
 -- What a processor asks and tells, as numbers.
 -- Assumes nothing.
-use Rattle.std.specs.Prelude.{ℕ, Some, None, Option}
+use Rattle.std.specs.Prelude.{Some, None, Option}
 use Rattle.routes.specs.declared.Answer.{Answer}
 use Rattle.routes.specs.declared.Answer.TheVariants.{Found, Nothing, Done, Full, No}
 use Rattle.routes.specs.declared.act.Act.{Act}

@@ -1,8 +1,8 @@
 -- From move to move.
 -- Assumes nothing.
-use Rattle.std.proofs.Common.{◌≡◌, ℕ, ◌+◌, ◌*◌, ◌<◌, ◌≤◌, List, length, get_or, Some, None, sym, refl, ap, ◌∙◌, subst, arith}
+use Rattle.std.proofs.Common.{◌≡◌, ℕ, ◌+◌, ◌<◌, List, length, arith}
 use Rattle.moves.specs.declared.listed.Listed.{Listed}
-use Rattle.moves.specs.Moves.{head_of, body_of, width_of, IsMove, AllMoves, end, more}
+use Rattle.moves.specs.Moves.{width_of, IsMove, AllMoves, end, more}
 
 -- one move stands at a place
 move_same : (cpus : ℕ) (ws : List ℕ) (at : ℕ) (l k : Listed) → IsMove cpus ws at l → IsMove cpus ws at k → l ≡ k

@@ -1,12 +1,11 @@
 -- A turn on a memory that replies one number: it may be taken, and the reply is that number.
-use Rattle.std.proofs.Common.{◌≡◌, ℕ, zero, suc, ◌+◌, ◌<◌, ◌≤◌, true, false, not, T, eqb, List, [], Option, sym, refl, ap, ◌∙◌, subst, arith}
+use Rattle.std.proofs.Common.{◌≡◌, ℕ, zero, suc, ◌+◌, ◌<◌, ◌≤◌, true, eqb, List, Option, refl, ap, ◌∙◌, subst, arith}
 use Rattle.std.proofs.lemmas.Bool.{eq-eqb}
 use Rattle.std.proofs.lemmas.Bool.Decides.{nat_tests}
 use Rattle.routes.specs.declared.Answer.{Answer}
 use Rattle.routes.specs.declared.Cpu.{Cpu}
 use Rattle.routes.specs.declared.act.Act.{Act}
 use Rattle.routes.specs.declared.act.Act.TheVariants.{Load, Store, Fence, Swap, Obtain, Release, Pause}
-use Rattle.routes.specs.declared.work.Work.{Work}
 use Rattle.routes.specs.Memory.{Mem, Obtains, got, out, last_late, arrived, none_to}
 use Rattle.routes.specs.Machine.Acts.{MayDo, Did, got_of}
 use Rattle.routes.specs.Machine.Cpus.{Ready, Stepped, act, work_after, words_after, told_after}

@@ -1,5 +1,5 @@
 -- A memory that replies one number: what it does when it is asked.
-use Rattle.std.proofs.Common.{◌≡◌, ℕ, ◌+◌, ◌-◌, ◌<◌, ◌≤◌, Bool, true, false, cond, not, T, eqb, [], Some, None, sym, refl, ap, ◌∙◌, subst, arith}
+use Rattle.std.proofs.Common.{◌≡◌, ℕ, ◌+◌, ◌-◌, ◌<◌, ◌≤◌, Bool, true, false, cond, eqb, Some, None, sym, refl, ap, ◌∙◌, subst, arith}
 use Rattle.std.proofs.lemmas.Bool.Decides.{nat_tests}
 use Rattle.routes.specs.Memory.{Mem, Arrives, rest, Obtains, got, out, counted, sees, fenced, swapped, last_late, arrived}
 use Rattle.port.specs.declared.reply.OneReply.{OneReply}

@@ -1,14 +1,14 @@
 -- What one more word, and one more event, make of a journal.
 -- Assumes nothing.
-use Rattle.std.proofs.Common.{◌≡◌, ℕ, zero, suc, ◌+◌, ◌-◌, ◌*◌, ◌<◌, ◌≤◌, min, true, false, cond, ltb, leb, ◌≢◌, List, [], ◌∷◌, ◌++◌, length, get_or, take, drop, set, sym, refl, ap, ◌∙◌, inl, inr, add-one, arith, drop-cons, get_or-set_other, get_or-set_same}
+use Rattle.std.proofs.Common.{◌≡◌, ℕ, zero, suc, ◌+◌, ◌-◌, ◌<◌, ◌≤◌, min, true, false, ltb, leb, ◌≢◌, List, [], ◌∷◌, length, get_or, take, drop, set, sym, refl, ap, inl, inr, add-one, arith, drop-cons, get_or-set_other, get_or-set_same}
 use Rattle.std.proofs.lemmas.List.{take_all, drop_all, length-take, length-take-le, get_or-take}
 use Rattle.std.proofs.lemmas.Bool.{cases_Bool}
 use Rattle.std.proofs.lemmas.Bool.Decides.{nat_tests}
 use Rattle.routes.specs.declared.Ask.TheVariants.{Find, Change}
 use Rattle.routes.specs.declared.Piece.{Piece}
 use Rattle.routes.specs.Asked.{pieces_of}
-use Rattle.routes.specs.Routes.{Event, Asked, Told, Turned}
-use Rattle.world.specs.Notes.{first_word, second_word, piece_of, read_pieces, skip_pieces, told_of}
+use Rattle.routes.specs.Routes.{Asked, Told, Turned}
+use Rattle.world.specs.Notes.{piece_of, read_pieces, skip_pieces, told_of}
 use Rattle.world.specs.Journals.{stack_of, events_of, top, below, kept, spread}
 
 -- a write above leaves the stack

@@ -1,6 +1,6 @@
 -- What a journal says was seen.
 -- Assumes nothing.
-use Rattle.std.specs.Prelude.{ℕ, zero, suc, ◌+◌, ◌-◌, min, Bool, cond, List, [], ◌∷◌, ◌++◌, length, nat_le, nat_lt, slice_index}
+use Rattle.std.specs.Prelude.{ℕ, zero, suc, ◌-◌, min, cond, List, [], ◌∷◌, ◌++◌, length, nat_le, nat_lt, slice_index}
 use Rattle.routes.specs.declared.Ask.TheVariants.{Find, Change}
 use Rattle.routes.specs.declared.Piece.{Piece}
 use Rattle.routes.specs.Routes.{Event, Asked, Told, Turned}

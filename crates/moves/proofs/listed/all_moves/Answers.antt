@@ -1,5 +1,5 @@
-use Rattle.std.proofs.Common.{◌≡◌, ◌+◌, sym, ap, arith}
-use Rattle.moves.specs.Moves.{AllMoves, width_of, more}
+use Rattle.std.proofs.Common.{◌≡◌, arith}
+use Rattle.moves.specs.Moves.{width_of, more}
 use Rattle.moves.proofs.Moves.{moves-behind, moves_not, moves-end}
 use Rattle.moves.proofs.listed.all_moves.Goals as goal
 

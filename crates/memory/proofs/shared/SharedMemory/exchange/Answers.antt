@@ -1,4 +1,4 @@
-use Rattle.std.proofs.Common.{◌<◌, length, get_or, sym, refl, ap, ◌∙◌, rules}
+use Rattle.std.proofs.Common.{◌<◌, length, get_or, sym, ap, ◌∙◌, rules}
 use Rattle.routes.specs.Memory.{Mem}
 use Rattle.memory.proofs.Arrivals.{arrives-same, swap-hit, swap-miss}
 use Rattle.memory.proofs.Words.{val-read}

@@ -1,4 +1,3 @@
-use Rattle.std.proofs.Common.{◌≡◌, arith}
 use Rattle.memory.specs.Pools.{AllCounted}
 use Rattle.memory.proofs.Pools.{all_held}
 use Rattle.memory.proofs.shared.SharedMemory.top_free.Goals as goal

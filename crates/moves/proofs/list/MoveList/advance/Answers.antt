@@ -1,4 +1,4 @@
-use Rattle.std.proofs.Common.{◌≡◌, refl}
+use Rattle.std.proofs.Common.{refl}
 use Rattle.moves.proofs.Lists.{taken-up-same}
 use Rattle.moves.proofs.list.MoveList.advance.Goals as goal
 

@@ -1,6 +1,6 @@
-use Rattle.std.proofs.Common.{◌≡◌, ℕ, ◌+◌, ◌*◌, ◌<◌, sym, refl, ap, ◌∙◌, arith}
+use Rattle.std.proofs.Common.{◌≡◌, ℕ, ◌+◌, ◌<◌, sym, refl, ap, ◌∙◌, arith}
 use Rattle.moves.specs.declared.listed.Listed.{Listed}
-use Rattle.moves.specs.Moves.{body_of, width_of}
+use Rattle.moves.specs.Moves.{body_of}
 use Rattle.moves.specs.Lists.{none, some, begins_of}
 use Rattle.moves.proofs.list.MoveList.take_up.Goals as goal
 

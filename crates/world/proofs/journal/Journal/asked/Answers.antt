@@ -1,4 +1,4 @@
-use Rattle.std.proofs.Common.{◌≡◌, [], ◌∷◌, sym, ap, ◌∙◌}
+use Rattle.std.proofs.Common.{◌∷◌, sym, ap, ◌∙◌}
 use Rattle.routes.specs.declared.Ask.{Ask}
 use Rattle.routes.specs.Asked.{pieces_of}
 use Rattle.routes.specs.Routes.{Asked}

@@ -1,4 +1,4 @@
-use Rattle.std.proofs.Common.{◌≡◌, ◌∷◌, sym, ap, ◌∙◌, arith}
+use Rattle.std.proofs.Common.{◌≡◌, ◌∷◌, ap, ◌∙◌, arith}
 use Rattle.world.specs.Journals.{notes_of}
 use Rattle.world.specs.Notes.{first_word, second_word, read_pieces, skip_pieces}
 use Rattle.world.proofs.Journals.{piece-read, piece-skipped}

@@ -1,7 +1,5 @@
-use Rattle.std.proofs.Common.{◌≡◌, suc, ◌+◌, ◌-◌, ◌*◌, ◌<◌, ◌∷◌, take, drop, sym, refl, ap, ◌∙◌, arith}
+use Rattle.std.proofs.Common.{◌≡◌, suc, ◌-◌, take, drop, refl, arith}
 use Rattle.routes.specs.Machine.Begins.{blank}
-use Rattle.world.specs.Notes.{read_pieces, skip_pieces}
-use Rattle.world.specs.Journals.{notes_of}
 use Rattle.world.proofs.Journals.{pieces_none, pieces_more, skip-none}
 use Rattle.world.proofs.journal.Journal.note_pieces.Goals as goal
 

@@ -1,4 +1,3 @@
-use Rattle.std.proofs.Common.{arith}
 use Rattle.world.specs.Journals.{kinds_of, notes_of}
 use Rattle.world.proofs.Journals.{turned-seen}
 use Rattle.world.proofs.journal.Journal.turned.Goals as goal

@@ -1,4 +1,4 @@
-use Rattle.std.proofs.Common.{◌∙◌, length-set}
+use Rattle.std.proofs.Common.{length-set}
 use Rattle.world.proofs.Marks.{marks-told}
 use Rattle.world.proofs.turn.ScheduledWorldWorld.told.Goals as goal
 

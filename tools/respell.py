@@ -1,20 +1,19 @@
 #!/usr/bin/env python3
 """Spells the repository's own words of specs and proofs as today's Rattle does: words in snake case, modules in camel case.
 
-usage: respell.py [--list]     at the top of the repository, right after port.py; --list shows the names and writes nothing
+usage: respell.py     at the top of the repository, right after port.py
 
-It was run once, when the repository came to this Rattle. Names of Rust functions, strings and inputs stay.
+It goes by respell.tsv beside it: a row for each name, old, a tab, new. A dash stays between two words that are names of their own, as in `sum-set`,
+and else becomes `_`, as in `sum_at`; a lemma that would have the name of what it is about ends in `_lem`. It was run when the repository came to this Rattle.
+Names of Rust functions, strings and inputs stay; so does what stands behind a dot, the names that Rattle makes.
 """
 
 import os
 import re
 import subprocess
-import sys
 
-TOKEN = re.compile(r"[^\s(){}\[\].;,@\"«»:|→λ`]+")
-CAMEL = re.compile(r"^[a-z][a-z0-9_]*[A-Z]")
-# Words of the library, and one name that holds another's.
-LEAVE = {"cases_Bool", "decimal_is_IsNumeral"}
+TOKEN = re.compile(r"(?<![^\s(){}\[\].;,@\"«»:|→λ`])[^\s(){}\[\].;,@\"«»:|→λ`]+")
+SPAN = re.compile(r"`[^`\n]*`")
 
 
 def files(*ends):
@@ -26,24 +25,9 @@ def files(*ends):
                     yield os.path.join(folder, n)
 
 
-def snake(word):
-    return re.sub(r"(?<=[a-z0-9])([A-Z])(?=[a-z0-9]|$|')", lambda m: "_" + m[1].lower(), word)
-
-
-def respelled(token):
-    return "-".join(snake(p) if CAMEL.match(p) and p not in LEAVE else p for p in token.split("-"))
-
-
-def words():
-    """Each lower camel word of the specs, the proofs and the clauses, with its new spelling."""
-    found = {}
-    for path in files(".antt", ".rt"):
-        with open(path, encoding="utf-8") as f:
-            for token in TOKEN.findall(f.read()):
-                new = respelled(token)
-                if new != token and token not in LEAVE:
-                    found[token] = new
-    return found
+def rows():
+    with open(os.path.join(os.path.dirname(os.path.abspath(__file__)), "respell.tsv"), encoding="utf-8") as f:
+        return dict(line.rstrip("\n").split("\t") for line in f)
 
 
 def modules():
@@ -57,8 +41,15 @@ def modules():
     return sorted(found)
 
 
-def turned(text, names, moved):
-    text = TOKEN.sub(lambda m: names.get(m[0], m[0]), text)
+def turned(text, names):
+    def turn(m):
+        made = "-" in m[0] and m.start() > 0 and text[m.start() - 1] == "."
+        return m[0] if made else names.get(m[0], m[0])
+
+    return TOKEN.sub(turn, text)
+
+
+def moved_paths(text, moved):
     for crate, kind, module in moved:
         text = re.sub(rf"\bRattle\.{crate}\.{kind}\.{module}\.", f"Rattle.{crate}.{kind}.{module.capitalize()}.", text)
         text = re.sub(rf"\bcrates/{crate}/{kind}/{module}/", f"crates/{crate}/{kind}/{module.capitalize()}/", text)
@@ -66,24 +57,22 @@ def turned(text, names, moved):
 
 
 def main():
-    names, moved = words(), modules()
-    if "--list" in sys.argv:
-        for old, new in sorted(names.items()):
-            print(old, new)
-        for row in moved:
-            print(*row)
-        return
+    names, moved = rows(), modules()
     for path in files(".antt", ".rt", ".edit", ".md"):
         with open(path, encoding="utf-8") as f:
             old = f.read()
-        new = turned(old, names, moved)
+        if path.endswith(".md"):
+            new = SPAN.sub(lambda m: turned(m[0], names), old)
+        else:
+            new = turned(old, names)
+        new = moved_paths(new, moved)
         if path.endswith(".antt"):
             crate, kind = path.split(os.sep)[1:3]
             for c, k, module in moved:
                 if (c, k) == (crate, kind):
                     new = re.sub(rf"^((?:pub )?mod ){module}$", rf"\g<1>{module.capitalize()}", new, flags=re.M)
         if path.endswith(".edit"):
-            crate = path.split(os.sep)[1] if path.startswith("crates") else path.split(os.sep)[2]
+            crate = path.split(os.sep)[1 if path.startswith("crates") else 2]
             for c, k, module in moved:
                 if c == crate:
                     new = re.sub(rf"^file: {k}/{module}/", f"file: {k}/{module.capitalize()}/", new, flags=re.M)

@@ -4,5 +4,5 @@ use Rattle.hall.specs.declared.player.Job.{Job}
 use Rattle.hall.specs.Players.{busy_below}
 
 -- one processor more is counted
-pub busy-more : (js : List (Option Job)) (n : ℕ) → busy_below js (n + 1) ≡ busy_below js n + cond (is_some (get_or js n None)) 1 0
-busy-more js n = rw add-one refl
+pub busy_more : (js : List (Option Job)) (n : ℕ) → busy_below js (n + 1) ≡ busy_below js n + cond (is_some (get_or js n None)) 1 0
+busy_more js n = rw add-one refl

@@ -24,9 +24,9 @@ told ps before (Err (Refused k)) after h = h
 told ps before (Err NoRoom) after h = h
 
 -- and so is what it makes of the first of the row
-pub told-few : (n : ℕ) (ps : List Piece) (before : PlainTable) (e : Result (Unit {0}) ChangeError) (r : Answer) (after : PlainTable) →
+pub told_few : (n : ℕ) (ps : List Piece) (before : PlainTable) (e : Result (Unit {0}) ChangeError) (r : Answer) (after : PlainTable) →
     n ≤ 8 → Changed (take n ps) before e after → r ≡ outcome_of e → AskTold (Change n) ps before r after
-told-few n ps before e r after h k q = rw (few n ps h, q) (told (take n ps) before e after k)
+told_few n ps before e r after h k q = rw (few n ps h, q) (told (take n ps) before e after k)
 
 -- more than eight are turned away
 pub many : (n : ℕ) (ps : List Piece) (rs : List Route) → 8 < n → length ps ≡ 8 → changed (pieces_of (Change n) ps) rs ≡ Wrong 1

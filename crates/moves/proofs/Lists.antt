@@ -7,5 +7,5 @@ use Rattle.moves.specs.declared.list.MoveList.{MoveList}
 use Rattle.moves.specs.Lists.{TakenUp}
 
 -- the same list and place give the same
-pub taken-up-same : {bs : List Bool} {cpus cpus' at at' : ℕ} {ws ws' : List ℕ} {r : Option Move} {t : MoveList} {row : List Piece} → cpus' ≡ cpus → ws' ≡ ws → at' ≡ at → TakenUp bs cpus' ws' at' r t row → TakenUp bs cpus ws at r t row
-taken-up-same e f g h = rw (← e, ← f, ← g) h
+pub taken_up_same : {bs : List Bool} {cpus cpus' at at' : ℕ} {ws ws' : List ℕ} {r : Option Move} {t : MoveList} {row : List Piece} → cpus' ≡ cpus → ws' ≡ ws → at' ≡ at → TakenUp bs cpus' ws' at' r t row → TakenUp bs cpus ws at r t row
+taken_up_same e f g h = rw (← e, ← f, ← g) h

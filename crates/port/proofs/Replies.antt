@@ -14,15 +14,15 @@ use Rattle.port.specs.Replies.{InMemory, ReplyFits, free_for, reply_to, waiting,
 use Rattle.port.specs.Turns.{Asks, Replied}
 
 -- What is in memory may be asked of it.
-may-ask : (a : Act) (p cpus x : ℕ) → p < cpus → InMemory a → MayDo (waiting cpus p x (free_for a x)) p a
+may_ask : (a : Act) (p cpus x : ℕ) → p < cpus → InMemory a → MayDo (waiting cpus p x (free_for a x)) p a
 unfolding none_to
-may-ask (Load b w) p cpus x h i = (omega arith, refl, h, i.0, grind (arith, nat_tests), i.1)
-may-ask (Store b w y) p cpus x h i = (omega arith, refl, h, i.0, grind (arith, nat_tests), i.1)
-may-ask Fence p cpus x h i = (omega arith, refl, h)
-may-ask (Swap b w old new) p cpus x h i = (omega arith, refl, h, i.0, grind (arith, nat_tests), i.1)
-may-ask Obtain p cpus x h i = (omega arith, refl, h)
-may-ask (Release b) p cpus x h i = (omega arith, refl, h, i.0, i.1, grind (arith, nat_tests), λ q. tt)
-may-ask Pause p cpus x h i = tt
+may_ask (Load b w) p cpus x h i = (omega arith, refl, h, i.0, grind (arith, nat_tests), i.1)
+may_ask (Store b w y) p cpus x h i = (omega arith, refl, h, i.0, grind (arith, nat_tests), i.1)
+may_ask Fence p cpus x h i = (omega arith, refl, h)
+may_ask (Swap b w old new) p cpus x h i = (omega arith, refl, h, i.0, grind (arith, nat_tests), i.1)
+may_ask Obtain p cpus x h i = (omega arith, refl, h)
+may_ask (Release b) p cpus x h i = (omega arith, refl, h, i.0, i.1, grind (arith, nat_tests), λ q. tt)
+may_ask Pause p cpus x h i = tt
 
 -- The block that is handed out is the free one.
 obtained : (p cpus x y : ℕ) (n : Mem) → x ≤ 1048576 → Obtains (waiting cpus p x x) (got_of y) n → y ≡ x
@@ -31,20 +31,20 @@ obtained p cpus (suc x) zero n fits (out _ all _) = let same : eqb (x + 1) (suc 
 obtained p cpus x (suc y) n fits (got _ v _ lt free _ _ _) = grind (arith, nat_tests)
 
 -- The reply is the given one.
-reply-is : (a : Act) (p cpus x y : ℕ) (n : Mem) → ReplyFits a x → Did p a (waiting cpus p x (free_for a x)) y n → y ≡ reply_to a x
+reply_is : (a : Act) (p cpus x y : ℕ) (n : Mem) → ReplyFits a x → Did p a (waiting cpus p x (free_for a x)) y n → y ≡ reply_to a x
 unfolding last_late arrived
-reply-is (Load b w) p cpus x y n fits d = d.0
-reply-is (Store b w z) p cpus x y n fits d = d.0
-reply-is Fence p cpus x y n fits d = d.0
-reply-is (Swap b w old new) p cpus x y n fits d = d.0
-reply-is Obtain p cpus x y n fits d = obtained p cpus x y n fits d
-reply-is (Release b) p cpus x y n fits d = d.0
-reply-is Pause p cpus x y n fits d = d.0
+reply_is (Load b w) p cpus x y n fits d = d.0
+reply_is (Store b w z) p cpus x y n fits d = d.0
+reply_is Fence p cpus x y n fits d = d.0
+reply_is (Swap b w old new) p cpus x y n fits d = d.0
+reply_is Obtain p cpus x y n fits d = obtained p cpus x y n fits d
+reply_is (Release b) p cpus x y n fits d = d.0
+reply_is Pause p cpus x y n fits d = d.0
 
 module _ {p cpus x : ℕ} {c : Cpu} {o : List ℕ} {a : Act} (w : OneReply) (asks : Asks p cpus c.work o a) (fits : ReplyFits a x) (is : mem_of w ≡ waiting cpus p x (free_for a x)) where
   -- The turn may be taken.
   pub ready : Ready (mem_of w) p c o
-  ready = record { ok = asks.ok; room = asks.words; may = rw is (rw asks.asked (may-ask (act p c.work o) p cpus x asks.number.0 asks.memory)) }
+  ready = record { ok = asks.ok; room = asks.words; may = rw is (rw asks.asked (may_ask (act p c.work o) p cpus x asks.number.0 asks.memory)) }
 
   -- It was taken with the given reply.
   pub replied : {t : Option Answer} {n : Mem} {d : Cpu} {u : List ℕ} → Stepped p (mem_of w) c o t n d u → Replied p cpus c o x t d u
@@ -53,7 +53,7 @@ module _ {p cpus x : ℕ} {c : Cpu} {o : List ℕ} {a : Act} (w : OneReply) (ask
       let asked = asks.asked in
       let did : Did p (act p k o) (waiting cpus p x (free_for (act p k o) x)) s.reply n =
       subst (λ m. Did p (act p k o) m s.reply n) (is ∙ ap (λ z. waiting cpus p x (free_for z x)) asked) s.did in
-      let e : s.reply ≡ reply_to (act p k o) x = reply-is (act p k o) p cpus x s.reply n (subst (λ z. ReplyFits z x) asked fits) did in
+      let e : s.reply ≡ reply_to (act p k o) x = reply_is (act p k o) p cpus x s.reply n (subst (λ z. ReplyFits z x) asked fits) did in
       let many : (mem_of w).cpus ≡ cpus = ap (λ m. m.cpus) is in
       record {
         work = s.work ∙ ap (λ z. work_after z k o s.reply) many ∙ ap (work_after cpus k o) e;

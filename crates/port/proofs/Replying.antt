@@ -11,9 +11,9 @@ use Rattle.port.specs.Replies.{waiting, outcome, obtained, mem_of}
 abbrev pub before : OneReply → Mem
 before r = waiting r.cpus r.who r.value r.free
 
-cond-left : (b : Bool) (m n : Mem) → m.left ≡ 1 → n.left ≡ 1 → (cond b m n).left ≡ 1
-cond-left true m n p q = p
-cond-left false m n p q = q
+cond_left : (b : Bool) (m n : Mem) → m.left ≡ 1 → n.left ≡ 1 → (cond b m n).left ≡ 1
+cond_left true m n p q = p
+cond_left false m n p q = q
 
 -- Once it was asked, it may not be asked again.
 left_over : (o : Outcome) (p : ℕ) (m : Mem) → m.left ≡ 1 → 0 < (outcome o p m).left → outcome o p m ≡ m
@@ -22,7 +22,7 @@ left_over Unchanged p m one h = absurd (omega arith)
 left_over (Stored b w x) p m one h = absurd (omega arith)
 left_over Fenced p m one h = absurd (omega arith)
 left_over (Swapped b w old new) p m one h =
-    let same : (swapped p b w old new m).left ≡ 1 = cond-left (eqb ((fenced p m).val b w) old) _ _ one one in
+    let same : (swapped p b w old new m).left ≡ 1 = cond_left (eqb ((fenced p m).val b w) old) _ _ one one in
     absurd (omega arith)
 left_over (Obtained b) p m one h = absurd (omega arith)
 left_over (Released b) p m one h = absurd (omega arith)
@@ -31,15 +31,15 @@ left_over (Released b) p m one h = absurd (omega arith)
 pub unasked : (r : OneReply) → 0 < (mem_of r).left → mem_of r ≡ before r
 unasked r h = left_over r.outcome r.who (before r) refl h
 
-arrives-same : {m n : Mem} → m ≡ n → Arrives m n
-arrives-same {m = m} e = subst (λ k. Arrives m k) e (rest m)
+arrives_same : {m n : Mem} → m ≡ n → Arrives m n
+arrives_same {m = m} e = subst (λ k. Arrives m k) e (rest m)
 
 -- What is done to it is done to what it was, by the processor whose turn it is.
 pub done : (r : OneReply) (p : ℕ) (does : ℕ → Mem → Mem) → 0 < (mem_of r).left → p ≡ (mem_of r).who → Arrives (does p (mem_of r)) (does r.who (before r))
 done r p does h q =
     let e = unasked r h in
     let whose : p ≡ r.who = q ∙ ap (λ m. m.who) e in
-    arrives-same (ap (λ z. does z (mem_of r)) whose ∙ ap (does r.who) e)
+    arrives_same (ap (λ z. does z (mem_of r)) whose ∙ ap (does r.who) e)
 
 -- What it hands back is its value.
 pub loads : (r : OneReply) (p b w : ℕ) → 0 < (mem_of r).left → r.value ≡ sees p b w (mem_of r)
@@ -51,14 +51,14 @@ unfolding arrived
 swaps r p b w h = ap (λ m. (fenced p m).val b w) (sym (unasked r h))
 
 -- No block is free.
-pub obtains-none : (r : OneReply) → 0 < (mem_of r).left → ((b : ℕ) → b < 1048576 → b + 1 ≡ r.free → ⊥) → Obtains (mem_of r) None (counted (before r))
-obtains-none r h none =
+pub obtains_none : (r : OneReply) → 0 < (mem_of r).left → ((b : ℕ) → b < 1048576 → b + 1 ≡ r.free → ⊥) → Obtains (mem_of r) None (counted (before r))
+obtains_none r h none =
     subst (λ m. Obtains m None (counted (before r))) (sym (unasked r h))
     (out (counted (before r)) (λ b lt. let other : b + 1 ≡ r.free → ⊥ = none b lt in grind (arith, nat_tests)) (rest _))
 
 -- The free one is got.
-pub obtains-some : (r : OneReply) → 0 < (mem_of r).left → 0 < r.free → r.free ≤ 1048576 → Obtains (mem_of r) (Some (r.free - 1)) (counted (obtained (r.free - 1) (before r)))
-obtains-some r h some small =
+pub obtains_some : (r : OneReply) → 0 < (mem_of r).left → 0 < r.free → r.free ≤ 1048576 → Obtains (mem_of r) (Some (r.free - 1)) (counted (obtained (r.free - 1) (before r)))
+obtains_some r h some small =
     let b = r.free - 1 in
     let n = counted (obtained b (before r)) in
     subst (λ m. Obtains m (Some b) n) (sym (unasked r h))

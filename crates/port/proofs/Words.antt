@@ -29,38 +29,38 @@ written r best =
     r.fields.index ∷ r.fields.node ∷ r.fields.next ∷ r.fields.level ∷ r.fields.word ∷ r.fields.first ∷ best ∷ []
 
 -- Then no word is more than it can be.
-all-narrow : (r : Registers) (best : ℕ) → Fit r → best < 281474976710656 → narrow (written r best) 16 ≡ true
+all_narrow : (r : Registers) (best : ℕ) → Fit r → best < 281474976710656 → narrow (written r best) 16 ≡ true
 unfolding narrow
-all-narrow r best f h = grind (arith, nat_tests)
+all_narrow r best f h = grind (arith, nat_tests)
 
-low-is : (x : ℕ) → x < 4294967296 → low x ≡ x
-low-is x h = omega arith
+low_is : (x : ℕ) → x < 4294967296 → low x ≡ x
+low_is x h = omega arith
 
-same-job : (j : Job) → j.size < 4294967296 → j.need < 4294967296 → j.got < 4294967296 → j.used < 4294967296 → j.retired < 4294967296 → j.root < 4294967296 →
+same_job : (j : Job) → j.size < 4294967296 → j.need < 4294967296 → j.got < 4294967296 → j.used < 4294967296 → j.retired < 4294967296 → j.root < 4294967296 →
     ◌≡◌ {A = Job} (record { size = low j.size; need = low j.need; got = low j.got; used = low j.used; retired = low j.retired; root = low j.root }) j
-same-job j a b c d e f =
-    λ i. record { size = low-is j.size a i; need = low-is j.need b i; got = low-is j.got c i; used = low-is j.used d i; retired = low-is j.retired e i; root = low-is j.root f i }
+same_job j a b c d e f =
+    λ i. record { size = low_is j.size a i; need = low_is j.need b i; got = low_is j.got c i; used = low_is j.used d i; retired = low_is j.retired e i; root = low_is j.root f i }
 
-same-fields : (r : Registers) (best : ℕ) → Fit r → best_in best ≡ r.fields.best → fields_in (written r best) ≡ r.fields
-same-fields r best f e =
+same_fields : (r : Registers) (best : ℕ) → Fit r → best_in best ≡ r.fields.best → fields_in (written r best) ≡ r.fields
+same_fields r best f e =
     let s = r.fields in
     let level : s.level % 256 ≡ s.level = omega arith in
     λ i. record {
-      state = low-is s.state f.state i;
+      state = low_is s.state f.state i;
       epoch = s.epoch;
-      index = low-is s.index f.index i;
-      node = low-is s.node f.node i;
-      next = low-is s.next f.next i;
+      index = low_is s.index f.index i;
+      node = low_is s.node f.node i;
+      next = low_is s.next f.next i;
       level = level i;
-      word = low-is s.word f.word i;
-      first = low-is s.first f.first i;
+      word = low_is s.word f.word i;
+      first = low_is s.first f.first i;
       best = e i;
     }
 
 -- What is read is what was written.
 pub reads : (r : Registers) (best : ℕ) → Fit r → best < 281474976710656 → best_in best ≡ r.fields.best → registers_of (written r best) ≡ Some r
 reads r best f h e =
-    let job = same-job r.job f.size f.need f.got f.used f.retired f.root in
-    let fields = same-fields r best f e in
-    let phase = low-is r.phase f.phase in
-    rw (all-narrow r best f h) (λ i. Some (record { phase = phase i; job = job i; fields = fields i }))
+    let job = same_job r.job f.size f.need f.got f.used f.retired f.root in
+    let fields = same_fields r best f e in
+    let phase = low_is r.phase f.phase in
+    rw (all_narrow r best f h) (λ i. Some (record { phase = phase i; job = job i; fields = fields i }))

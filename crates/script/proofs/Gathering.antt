@@ -9,11 +9,11 @@ use Rattle.script.specs.Reading.{◌>>=◌}
 -- whole comes of the part t and others after it
 module _ (c : Change) (t : List ℕ) (ts : List (List ℕ)) (whole : Result Change Expected) (inv : gathered c (t ∷ ts) ≡ whole) where
   -- The part is a piece.
-  pub gather-more : (p : Piece) → Ok p ≡ piece_of t → gathered (with_piece c p) ts ≡ whole
+  pub gather_more : (p : Piece) → Ok p ≡ piece_of t → gathered (with_piece c p) ts ≡ whole
   unfolding gathered
-  gather-more p e = ap (λ r. r >>= (λ q. gathered (with_piece c q) ts)) e ∙ inv
+  gather_more p e = ap (λ r. r >>= (λ q. gathered (with_piece c q) ts)) e ∙ inv
 
   -- The part is none.
-  pub gather-wrong : (e : Expected) → Err e ≡ piece_of t → Err e ≡ whole
+  pub gather_wrong : (e : Expected) → Err e ≡ piece_of t → Err e ≡ whole
   unfolding gathered
-  gather-wrong e w = ap (λ r. r >>= (λ q. gathered (with_piece c q) ts)) w ∙ inv
+  gather_wrong e w = ap (λ r. r >>= (λ q. gathered (with_piece c q) ts)) w ∙ inv

@@ -5,14 +5,14 @@ use Rattle.script.specs.declared.bytes.Kind.{Kind}
 use Rattle.script.specs.Bytes.{is_of, front_of}
 
 -- Each of them is of the kind.
-pub front-is : (k : Kind) (t : List ℕ) (i : ℕ) → i < front_of k t → is_of k (get_or t i 0) ≡ true
-front-is k [] i h = absurd (omega arith)
-front-is k (c ∷ cs) zero h = elim (cases_Bool (is_of k c)) [
+pub front_is : (k : Kind) (t : List ℕ) (i : ℕ) → i < front_of k t → is_of k (get_or t i 0) ≡ true
+front_is k [] i h = absurd (omega arith)
+front_is k (c ∷ cs) zero h = elim (cases_Bool (is_of k c)) [
   | inl e ↦ e
   | inr e ↦ absurd (let f = rw e at h in omega arith)
 ]
-front-is k (c ∷ cs) (suc i) h = elim (cases_Bool (is_of k c)) [
-  | inl e ↦ (let f = rw (e, one-add) at h in front-is k cs i (omega arith))
+front_is k (c ∷ cs) (suc i) h = elim (cases_Bool (is_of k c)) [
+  | inl e ↦ (let f = rw (e, one-add) at h in front_is k cs i (omega arith))
   | inr e ↦ absurd (let f = rw e at h in omega arith)
 ]
 

@@ -26,9 +26,9 @@ module _ (t part rest : List ℕ) (n : ℕ) (front : n ≡ front_of (Not 44) t) 
   whole = cut t ∙ rw (← front, ← before, ← behind) refl
 
   -- Nothing follows: this is the last part.
-  pub last-part : length rest ≡ 0 → parts t ≡ part ∷ []
+  pub last_part : length rest ≡ 0 → parts t ≡ part ∷ []
   unfolding later
-  last-part h = whole ∙ ap (λ r. part ∷ later r) (nil_from_length rest h)
+  last_part h = whole ∙ ap (λ r. part ∷ later r) (nil_from_length rest h)
 
   -- A comma follows, and after it other parts.
   pub more_parts : 0 < length rest → parts t ≡ part ∷ parts (drop 1 rest)

@@ -12,24 +12,24 @@ use Rattle.script.specs.Bytes.{all_of}
 use Rattle.script.specs.Numbers.{small}
 
 -- A number of at most 64 bits is itself.
-pub small-some : (x m : ℕ) → Some m ≡ small x → (m ≡ x) × (m < 2 ^ 64)
-small-some x m e = elim (cases_lt x (2 ^ 64)) [
+pub small_some : (x m : ℕ) → Some m ≡ small x → (m ≡ x) × (m < 2 ^ 64)
+small_some x m e = elim (cases_lt x (2 ^ 64)) [
   | inl h ↦ (let same : m ≡ x = grind (arith, nat_tests) in (same, omega arith))
   | inr h ↦ (let z : ◌≡◌ {A = ℕ} 0 1 = grind (arith, nat_tests) in absurd (omega arith))
 ]
 
 -- Where it is none it has more.
-pub small-none : (x : ℕ) → None ≡ small x → 2 ^ 64 ≤ x
-small-none x e = elim (cases_lt x (2 ^ 64)) [
+pub small_none : (x : ℕ) → None ≡ small x → 2 ^ 64 ≤ x
+small_none x e = elim (cases_lt x (2 ^ 64)) [
   | inl h ↦ (let z : ◌≡◌ {A = ℕ} 0 1 = grind (arith, nat_tests) in absurd (omega arith))
   | inr h ↦ h
 ]
 
 -- More digits make no smaller number.
-value_after-ge : (r n : ℕ) (ds : List ℕ) → 0 < r → n ≤ digits_value_after r n ds
-value_after-ge r n [] h = omega arith
-value_after-ge r n (d ∷ ds) h =
-    let ih = value_after-ge r (n * r + digit_value d) ds h in
+value_after_ge : (r n : ℕ) (ds : List ℕ) → 0 < r → n ≤ digits_value_after r n ds
+value_after_ge r n [] h = omega arith
+value_after_ge r n (d ∷ ds) h =
+    let ih = value_after_ge r (n * r + digit_value d) ds h in
     let one = mul-le-mul_left n h in
     omega arith
 
@@ -41,14 +41,14 @@ module _ (r n d : ℕ) (ds : List ℕ) (i : ℕ) (inv : digits_value_after r n (
 
   -- With it the number still has at most 64 bits.
   pub reads_more : (m : ℕ) → i < length ds → d ≡ digit_value (get_or ds i 0) → Some m ≡ small (n * r + d) → (digits_value_after r m (drop (i + 1) ds) ≡ digits_value r ds) × (m < 2 ^ 64)
-  reads_more m h e s = let is = small-some _ m s in (rw is.0 (step h e), is.1)
+  reads_more m h e s = let is = small_some _ m s in (rw is.0 (step h e), is.1)
 
   -- With it the number has more, and so it has with all digits.
   pub reads_none : 0 < r → i < length ds → d ≡ digit_value (get_or ds i 0) → None ≡ small (n * r + d) → None ≡ small (digits_value r ds)
   reads_none pos h e s =
-      let large = small-none _ s in
+      let large = small_none _ s in
       let here = step h e in
-      let more = value_after-ge r (n * r + d) (drop (i + 1) ds) pos in
+      let more = value_after_ge r (n * r + d) (drop (i + 1) ds) pos in
       let all : 2 ^ 64 ≤ digits_value r ds = omega arith in
       grind (arith, nat_tests)
 
@@ -59,16 +59,16 @@ module _ (r n d : ℕ) (ds : List ℕ) (i : ℕ) (inv : digits_value_after r n (
       rw (← is) (grind (arith, nat_tests))
 
 -- A text whose front of digits is the whole is digits.
-pub digits-from-front : (r : ℕ) (t : List ℕ) → prefix_len (λ b. ltb (digit_value b) r) t ≡ length t → AllDigits r t
-digits-from-front r [] e = tt
-digits-from-front r (c ∷ cs) e = elim (cases_Bool (ltb (digit_value c) r)) [
-  | inl h ↦ (ltb-true _ _ h, digits-from-front r cs (let f = rw h at e in omega arith))
+pub digits_from_front : (r : ℕ) (t : List ℕ) → prefix_len (λ b. ltb (digit_value b) r) t ≡ length t → AllDigits r t
+digits_from_front r [] e = tt
+digits_from_front r (c ∷ cs) e = elim (cases_Bool (ltb (digit_value c) r)) [
+  | inl h ↦ (ltb-true _ _ h, digits_from_front r cs (let f = rw h at e in omega arith))
   | inr h ↦ (let f = rw h at e in absurd (omega arith))
 ]
 
 -- Eight hexadecimal digits write a number of 32 bits.
-pub address-fits : (t : List ℕ) → all_of (Digit 16) t ≡ true → length t ≡ 8 → digits_value 16 t < 2 ^ 32
-address-fits t e l =
+pub address_fits : (t : List ℕ) → all_of (Digit 16) t ≡ true → length t ≡ 8 → digits_value 16 t < 2 ^ 32
+address_fits t e l =
     let whole = (and_parts _ _ e).1 in
-    let below = digits_value-lt 16 t (digits-from-front 16 t (eqb-true _ _ whole)) in
+    let below = digits_value-lt 16 t (digits_from_front 16 t (eqb-true _ _ whole)) in
     rw l at below

@@ -28,23 +28,23 @@ stack_push xs n v l =
     rw (add-one) (let e = get_or-set_same xs n v 0 l in let s = stack_same xs n v n (omega arith) in cc)
 
 -- a turn
-pub turned-seen : (p : ℕ) (ks ws : List ℕ) → p < 16 → events_of (p ∷ ks) ws ≡ Turned p ∷ events_of ks ws
+pub turned_seen : (p : ℕ) (ks ws : List ℕ) → p < 16 → events_of (p ∷ ks) ws ≡ Turned p ∷ events_of ks ws
 unfolding events_of
-turned-seen p ks ws l = let e : ltb p 16 ≡ true = grind (arith, nat_tests) in rw e
+turned_seen p ks ws l = let e : ltb p 16 ≡ true = grind (arith, nat_tests) in rw e
 
 -- something is told
-pub told-seen : (p x : ℕ) (ks ws : List ℕ) → p < 16 → events_of ((16 + p) ∷ ks) (x ∷ ws) ≡ Told p (told_of x) ∷ events_of ks ws
+pub told_seen : (p x : ℕ) (ks ws : List ℕ) → p < 16 → events_of ((16 + p) ∷ ks) (x ∷ ws) ≡ Told p (told_of x) ∷ events_of ks ws
 unfolding events_of top below
-told-seen p x ks ws l =
+told_seen p x ks ws l =
     let a : ltb (16 + p) 16 ≡ false = grind (arith, nat_tests) in
     let b : ltb (16 + p) 32 ≡ true = grind (arith, nat_tests) in
     let d : 16 + p - 16 ≡ p = omega arith in
     rw (a, b) (ap (λ q. Told q (told_of x) ∷ events_of ks ws) d)
 
 -- a lookup is asked
-pub find-seen : (p x : ℕ) (ks ws : List ℕ) → p < 16 → events_of ((32 + p) ∷ ks) (x ∷ ws) ≡ Asked p (Find x) [] ∷ events_of ks ws
+pub find_seen : (p x : ℕ) (ks ws : List ℕ) → p < 16 → events_of ((32 + p) ∷ ks) (x ∷ ws) ≡ Asked p (Find x) [] ∷ events_of ks ws
 unfolding events_of top below
-find-seen p x ks ws l =
+find_seen p x ks ws l =
     let a : ltb (32 + p) 16 ≡ false = grind (arith, nat_tests) in
     let b : ltb (32 + p) 32 ≡ false = grind (arith, nat_tests) in
     let e : ltb (32 + p) 48 ≡ true = grind (arith, nat_tests) in
@@ -52,10 +52,10 @@ find-seen p x ks ws l =
     rw (a, b, e) (ap (λ q. Asked q (Find x) [] ∷ events_of ks ws) d)
 
 -- an update is asked
-pub change-seen : (p n : ℕ) (ks ws : List ℕ) → p < 16 →
+pub change_seen : (p n : ℕ) (ks ws : List ℕ) → p < 16 →
     events_of ((48 + p) ∷ ks) (n ∷ ws) ≡ Asked p (Change n) (spread n (read_pieces (kept n) ws)) ∷ events_of ks (skip_pieces (kept n) ws)
 unfolding events_of top below
-change-seen p n ks ws l =
+change_seen p n ks ws l =
     let a : ltb (48 + p) 16 ≡ false = grind (arith, nat_tests) in
     let b : ltb (48 + p) 32 ≡ false = grind (arith, nat_tests) in
     let e : ltb (48 + p) 48 ≡ false = grind (arith, nat_tests) in
@@ -76,13 +76,13 @@ spread-pieces n ps l = elim (cases_Bool (leb n 8)) [
 ]
 
 -- a piece's words on top are the piece
-pub piece-read : (x y : ℕ) (ws : List ℕ) (a : Piece) → piece_of x y ≡ a → (n : ℕ) → read_pieces (suc n) (x ∷ y ∷ ws) ≡ a ∷ read_pieces n ws
+pub piece_read : (x y : ℕ) (ws : List ℕ) (a : Piece) → piece_of x y ≡ a → (n : ℕ) → read_pieces (suc n) (x ∷ y ∷ ws) ≡ a ∷ read_pieces n ws
 unfolding read_pieces
-piece-read x y ws a e n = ap (λ z. z ∷ read_pieces n ws) e
+piece_read x y ws a e n = ap (λ z. z ∷ read_pieces n ws) e
 
-pub piece-skipped : (x y n : ℕ) (ws : List ℕ) → skip_pieces (suc n) (x ∷ y ∷ ws) ≡ skip_pieces n ws
+pub piece_skipped : (x y n : ℕ) (ws : List ℕ) → skip_pieces (suc n) (x ∷ y ∷ ws) ≡ skip_pieces n ws
 unfolding skip_pieces
-piece-skipped x y n ws = refl
+piece_skipped x y n ws = refl
 
 -- no piece is past the last
 pub pieces_none : (n : ℕ) (ps : List Piece) (ws : List ℕ) → read_pieces (n - n) ws ≡ drop n (take n ps)
@@ -101,6 +101,6 @@ pieces_more n j ps d l m =
     let c = drop-cons (take n ps) j d h in
     cc
 
-pub skip-none : (n : ℕ) (ws : List ℕ) → skip_pieces (n - n) ws ≡ ws
+pub skip_none : (n : ℕ) (ws : List ℕ) → skip_pieces (n - n) ws ≡ ws
 unfolding skip_pieces
-skip-none n ws = let z : n - n ≡ 0 = omega arith in rw z refl
+skip_none n ws = let z : n - n ≡ 0 = omega arith in rw z refl

@@ -19,52 +19,52 @@ oldest-allowed p q m = go (m.late q)
     go (s ∷ ss) = refl
 
 -- stores arrive, and then it is somebody's turn: or the other way round
-pub arrives-allowed : (p : ℕ) {m n : Mem} → Arrives m n → Arrives (allowed p m) (allowed p n)
-arrives-allowed p (rest m) = rest (allowed p m)
-arrives-allowed p (one {m = m} {n = n} q a) = one q (subst (λ k. Arrives k (allowed p n)) (oldest-allowed p q m) (arrives-allowed p a))
+pub arrives_allowed : (p : ℕ) {m n : Mem} → Arrives m n → Arrives (allowed p m) (allowed p n)
+arrives_allowed p (rest m) = rest (allowed p m)
+arrives_allowed p (one {m = m} {n = n} q a) = one q (subst (λ k. Arrives k (allowed p n)) (oldest-allowed p q m) (arrives_allowed p a))
 
 -- no processor comes or goes
-pub arrives-cpus : {m n : Mem} → Arrives m n → n.cpus ≡ m.cpus
+pub arrives_cpus : {m n : Mem} → Arrives m n → n.cpus ≡ m.cpus
 unfolding oldest
-arrives-cpus (rest m) = refl
-arrives-cpus (one {m = m} {n = n} q a) = arrives-cpus a ∙ go (m.late q)
+arrives_cpus (rest m) = refl
+arrives_cpus (one {m = m} {n = n} q a) = arrives_cpus a ∙ go (m.late q)
   where
     go : (row : List Store) → (oldest q row m).cpus ≡ m.cpus
     go [] = refl
     go (s ∷ ss) = refl
 
 -- whose turn it is can be said before stores arrive
-pub next-arrived : (t : Turn) (p : ℕ) (ps : List Piece) {m n : Mem} (es fs gs : List Event) → Arrives m n → gs ≡ es → Next t p ps n gs fs → Next t p ps m es fs
+pub next_arrived : (t : Turn) (p : ℕ) (ps : List Piece) {m n : Mem} (es fs gs : List Event) → Arrives m n → gs ≡ es → Next t p ps n gs fs → Next t p ps m es fs
 unfolding Next
-next-arrived t p ps {m} {n} es fs gs a e h = go t (subst (λ z. Next t p ps n z fs) e h)
+next_arrived t p ps {m} {n} es fs gs a e h = go t (subst (λ z. Next t p ps n z fs) e h)
   where
     go : (u : Turn) → Next u p ps n es fs → Next u p ps m es fs
-    go (Begin k) x = (rw (arrives-cpus a) at x.0, x.1, x.2)
-    go Go x = (rw (arrives-cpus a) at x.0, x.1, x.2)
+    go (Begin k) x = (rw (arrives_cpus a) at x.0, x.1, x.2)
+    go Go x = (rw (arrives_cpus a) at x.0, x.1, x.2)
     go Over x = x
 
 -- all is over, and nothing new was seen
-pub next-over : (r : ℕ × Turn) (ps : List Piece) (m : Mem) (es fs : List Event) → r ≡ (0, Over) → fs ≡ es → Next r.1 r.0 ps m es fs
+pub next_over : (r : ℕ × Turn) (ps : List Piece) (m : Mem) (es fs : List Event) → r ≡ (0, Over) → fs ≡ es → Next r.1 r.0 ps m es fs
 unfolding Next
-next-over r ps m es fs e same = subst (λ (z : ℕ × Turn). Next z.1 z.0 ps m es fs) (sym e) same
+next_over r ps m es fs e same = subst (λ (z : ℕ × Turn). Next z.1 z.0 ps m es fs) (sym e) same
 
 -- a processor that has something under way goes on
-pub next-go : (r : ℕ × Turn) (p : ℕ) (ps : List Piece) (m : Mem) (es fs : List Event) → r ≡ (p, Go) → p < m.cpus → T (under p es) → fs ≡ es → Next r.1 r.0 ps m es fs
+pub next_go : (r : ℕ × Turn) (p : ℕ) (ps : List Piece) (m : Mem) (es fs : List Event) → r ≡ (p, Go) → p < m.cpus → T (under p es) → fs ≡ es → Next r.1 r.0 ps m es fs
 unfolding Next
-next-go r p ps m es fs e h busy same = subst (λ (z : ℕ × Turn). Next z.1 z.0 ps m es fs) (sym e) (h, busy, same)
+next_go r p ps m es fs e h busy same = subst (λ (z : ℕ × Turn). Next z.1 z.0 ps m es fs) (sym e) (h, busy, same)
 
 -- something begins on one that has not
-pub next-begin : (k : Ask) (p : ℕ) (ps : List Piece) (m : Mem) (es fs : List Event) → p < m.cpus → T (not (under p es)) → fs ≡ Asked p k (pieces_of k ps) ∷ es → Next (Begin k) p ps m es fs
+pub next_begin : (k : Ask) (p : ℕ) (ps : List Piece) (m : Mem) (es fs : List Event) → p < m.cpus → T (not (under p es)) → fs ≡ Asked p k (pieces_of k ps) ∷ es → Next (Begin k) p ps m es fs
 unfolding Next
-next-begin k p ps m es fs h idle seen = (h, idle, seen)
+next_begin k p ps m es fs h idle seen = (h, idle, seen)
 
 -- stores arrive, and it is somebody's turn
-pub turn-given : (p : ℕ) {m n k : Mem} → Arrives m n → k ≡ allowed p n → Arrives (allowed p m) k
-turn-given p {m} a e = subst (Arrives (allowed p m)) (sym e) (arrives-allowed p a)
+pub turn_given : (p : ℕ) {m n k : Mem} → Arrives m n → k ≡ allowed p n → Arrives (allowed p m) k
+turn_given p {m} a e = subst (Arrives (allowed p m)) (sym e) (arrives_allowed p a)
 
 -- what may be touched before stores of a fence arrive may be touched after
-pub touch-fenced : (p q b w : ℕ) (m n : Mem) → fenced p n ≡ fenced p m → MayTouch m q b w → MayTouch n q b w
-touch-fenced p q b w m n e h =
+pub touch_fenced : (p q b w : ℕ) (m n : Mem) → fenced p n ≡ fenced p m → MayTouch m q b w → MayTouch n q b w
+touch_fenced p q b w m n e h =
     let left : n.left ≡ m.left = ap (λ (k : Mem). k.left) e in
     let who : n.who ≡ m.who = ap (λ (k : Mem). k.who) e in
     let cpus : n.cpus ≡ m.cpus = ap (λ (k : Mem). k.cpus) e in

@@ -9,13 +9,13 @@ use Rattle.routes.specs.Tree.Walks.{down}
 use Rattle.routes.specs.Repr.Images.{Own}
 use Rattle.routes.specs.Build.Writes.{fresh_blocks, unused_blocks, retired_blocks, Held}
 use Rattle.routes.proofs.Counts.Segments.{seg_same}
-use Rattle.routes.proofs.Tree.Trees.{top-is, path-none}
+use Rattle.routes.proofs.Tree.Trees.{top_is, path_none}
 
 -- A change begins to be built with the published tree.
-pub held-begin : (own : Own) (T : Tree) (need root : ℕ) → ((b : ℕ) → bit (eqb b 0) + count b T + cnt b (fresh_blocks own need) ≤ 1) → ((b : ℕ) → 1 ≤ cnt b (fresh_blocks own need) → b < 2 ^ 20) →
+pub held_begin : (own : Own) (T : Tree) (need root : ℕ) → ((b : ℕ) → bit (eqb b 0) + count b T + cnt b (fresh_blocks own need) ≤ 1) → ((b : ℕ) → 1 ≤ cnt b (fresh_blocks own need) → b < 2 ^ 20) →
     root ≡ block_of T → Held own T T need 0 0 root
 unfolding seg cnt
-held-begin own T need root once inside e = record {
+held_begin own T need root once inside e = record {
   once = once;
   inside = inside;
   spent = omega arith;
@@ -24,8 +24,8 @@ held-begin own T need root once inside e = record {
 }
 
 -- Block 0 is none of the tree's.
-pub held-zero : (own : Own) (T W : Tree) (need used retired root : ℕ) → Held own T W need used retired root → count 0 W ≡ 0
-held-zero own T W need used retired root k = let a = k.balance 0 in let b = k.once 0 in grind (arith, nat_tests)
+pub held_zero : (own : Own) (T W : Tree) (need used retired root : ℕ) → Held own T W need used retired root → count 0 W ≡ 0
+held_zero own T W need used retired root k = let a = k.balance 0 in let b = k.once 0 in grind (arith, nat_tests)
 
 -- Own words elsewhere do not matter.
 pub held_stays : (own own' : Own) (T W : Tree) (need used retired root : ℕ) → need ≤ 72 → ((i : ℕ) → fresh_at 0 ≤ i → i < retired_at retired → own' i ≡ own i) →
@@ -39,14 +39,14 @@ held_stays own own' T W need used retired root few s k =
     record { once = λ b. rw all (k.once b); inside = λ b. rw all (k.inside b); spent = k.spent; top = k.top; balance = λ b. rw (all, old, rest) (k.balance b) }
 
 -- The blocks that were read on a way are those of the way.
-pub path-down : (b : ℕ) (t : Tree) (a k d m : ℕ) → m ≤ suc k → (m ≤ k → down a (d + m) t ≡ none) → ((e : ℕ) → d ≤ e → e < d + m → block_of (down a e t) ≡ 0 → ⊥) →
+pub path_down : (b : ℕ) (t : Tree) (a k d m : ℕ) → m ≤ suc k → (m ≤ k → down a (d + m) t ≡ none) → ((e : ℕ) → d ≤ e → e < d + m → block_of (down a e t) ≡ 0 → ⊥) →
     path b (nibs d k a) (down a d t) ≡ cnt b (seg (λ e. block_of (down a e t)) d m)
 unfolding path nibs down cnt seg
-path-down b t a k d zero l n r = rw (subst (λ y. down a y t ≡ none) (add-zero d) (n (omega arith))) (path-none b (nibs d k a))
-path-down b t a zero d (suc m) l n r = let q : m ≡ 0 = omega arith in rw q (omega (arith, top-is b (down a d t) (r d (omega arith) (omega arith))))
-path-down b t a (suc k) d (suc m) l n r =
+path_down b t a k d zero l n r = rw (subst (λ y. down a y t ≡ none) (add-zero d) (n (omega arith))) (path_none b (nibs d k a))
+path_down b t a zero d (suc m) l n r = let q : m ≡ 0 = omega arith in rw q (omega (arith, top_is b (down a d t) (r d (omega arith) (omega arith))))
+path_down b t a (suc k) d (suc m) l n r =
     omega (
       arith,
-      top-is b (down a d t) (r d (omega arith) (omega arith)),
-      path-down b t a k (suc d) m (omega arith) (λ h. let q : d + suc m ≡ suc d + m = omega arith in subst (λ y. down a y t ≡ none) q (n (omega arith))) (λ e x y. r e (omega arith) (omega arith)),
+      top_is b (down a d t) (r d (omega arith) (omega arith)),
+      path_down b t a k (suc d) m (omega arith) (λ h. let q : d + suc m ≡ suc d + m = omega arith in subst (λ y. down a y t ≡ none) q (n (omega arith))) (λ e x y. r e (omega arith) (omega arith)),
     )

@@ -13,36 +13,36 @@ sum_same (suc n) f g h =
     omega (arith, h n (omega arith))
 
 -- Sums of smaller terms are smaller.
-pub sum-le : (n : ℕ) (f g : ℕ → ℕ) → ((i : ℕ) → i < n → f i ≤ g i) → sum n f ≤ sum n g
+pub sum_le : (n : ℕ) (f g : ℕ → ℕ) → ((i : ℕ) → i < n → f i ≤ g i) → sum n f ≤ sum n g
 unfolding sum
-sum-le zero f g h = omega arith
-sum-le (suc n) f g h =
-    let ih : sum n f ≤ sum n g = sum-le n f g (λ i l. h i (omega arith)) in
+sum_le zero f g h = omega arith
+sum_le (suc n) f g h =
+    let ih : sum n f ≤ sum n g = sum_le n f g (λ i l. h i (omega arith)) in
     omega (arith, h n (omega arith))
 
 -- A sum of sums.
-pub sum-plus : (n : ℕ) (f g : ℕ → ℕ) → sum n (λ i. f i + g i) ≡ sum n f + sum n g
+pub sum_plus : (n : ℕ) (f g : ℕ → ℕ) → sum n (λ i. f i + g i) ≡ sum n f + sum n g
 unfolding sum
-sum-plus zero f g = refl
-sum-plus (suc n) f g = omega (arith, sum-plus n f g)
+sum_plus zero f g = refl
+sum_plus (suc n) f g = omega (arith, sum_plus n f g)
 
 -- A sum of multiples.
-pub sum-times : (n k : ℕ) (f : ℕ → ℕ) → sum n (λ i. k * f i) ≡ k * sum n f
+pub sum_times : (n k : ℕ) (f : ℕ → ℕ) → sum n (λ i. k * f i) ≡ k * sum n f
 unfolding sum
-sum-times zero k f = omega arith
-sum-times (suc n) k f = omega (arith, sum-times n k f)
+sum_times zero k f = omega arith
+sum_times (suc n) k f = omega (arith, sum_times n k f)
 
 -- A sum of nothing is nothing.
-pub sum-zero : (n : ℕ) (f : ℕ → ℕ) → ((i : ℕ) → i < n → f i ≡ 0) → sum n f ≡ 0
+pub sum_zero : (n : ℕ) (f : ℕ → ℕ) → ((i : ℕ) → i < n → f i ≡ 0) → sum n f ≡ 0
 unfolding sum
-sum-zero zero f h = refl
-sum-zero (suc n) f h = let ih : sum n f ≡ 0 = sum-zero n f (λ i l. h i (omega arith)) in omega (arith, h n (omega arith))
+sum_zero zero f h = refl
+sum_zero (suc n) f h = let ih : sum n f ≡ 0 = sum_zero n f (λ i l. h i (omega arith)) in omega (arith, h n (omega arith))
 
 -- A sum of sums, the other way round.
-pub sum-swap : (n m : ℕ) (f : ℕ → ℕ → ℕ) → sum n (λ i. sum m (f i)) ≡ sum m (λ j. sum n (λ i. f i j))
+pub sum_swap : (n m : ℕ) (f : ℕ → ℕ → ℕ) → sum n (λ i. sum m (f i)) ≡ sum m (λ j. sum n (λ i. f i j))
 unfolding sum
-sum-swap zero m f = sym (sum-zero m (λ j. 0) (λ j l. refl))
-sum-swap (suc n) m f = omega (arith, sum-swap n m f, sum-plus m (f n) (λ j. sum n (λ i. f i j)))
+sum_swap zero m f = sym (sum_zero m (λ j. 0) (λ j l. refl))
+sum_swap (suc n) m f = omega (arith, sum_swap n m f, sum_plus m (f n) (λ j. sum n (λ i. f i j)))
 
 -- A sum of ones counts.
 pub sum_ones : (n : ℕ) → sum n (λ i. 1) ≡ n
@@ -51,32 +51,32 @@ sum_ones zero = refl
 sum_ones (suc n) = omega (arith, sum_ones n)
 
 -- A term is at most the sum.
-pub sum-at : (n k : ℕ) (f : ℕ → ℕ) → k < n → f k ≤ sum n f
+pub sum_at : (n k : ℕ) (f : ℕ → ℕ) → k < n → f k ≤ sum n f
 unfolding sum
-sum-at zero k f h = omega arith
-sum-at (suc n) k f h = grind (arith, nat_tests, sum-at n k f)
+sum_at zero k f h = omega arith
+sum_at (suc n) k f h = grind (arith, nat_tests, sum_at n k f)
 
 -- A sum in two parts.
-pub sum-split : (m n : ℕ) (f : ℕ → ℕ) → sum (m + n) f ≡ sum n (λ i. f (m + i)) + sum m f
+pub sum_split : (m n : ℕ) (f : ℕ → ℕ) → sum (m + n) f ≡ sum n (λ i. f (m + i)) + sum m f
 unfolding sum
-sum-split m zero f = let q : m + 0 ≡ m = omega arith in rw q (omega arith)
-sum-split m (suc n) f = rw (add-suc m n) (omega (arith, sum-split m n f))
+sum_split m zero f = let q : m + 0 ≡ m = omega arith in rw q (omega arith)
+sum_split m (suc n) f = rw (add-suc m n) (omega (arith, sum_split m n f))
 
 -- A number is at most one of those below n.
-pub sum-hit : (n x : ℕ) → sum n (λ b. bit (eqb b x)) ≤ 1
+pub sum_hit : (n x : ℕ) → sum n (λ b. bit (eqb b x)) ≤ 1
 unfolding sum
-sum-hit zero x = omega arith
-sum-hit (suc n) x = elim (eqb_tells n x) [
-  | inl e ↦ let miss = sum-zero n (λ b. bit (eqb b x)) (λ i l. grind (arith, nat_tests)) in grind arith
-  | inr e ↦ let ih = sum-hit n x in grind arith
+sum_hit zero x = omega arith
+sum_hit (suc n) x = elim (eqb_tells n x) [
+  | inl e ↦ let miss = sum_zero n (λ b. bit (eqb b x)) (λ i l. grind (arith, nat_tests)) in grind arith
+  | inr e ↦ let ih = sum_hit n x in grind arith
 ]
 
 -- One place of a family changed beyond the sum: nothing of it is seen.
-pub sum-set-above : {A : Type 0} (F : A → ℕ) (n k : ℕ) (y : A) (f : ℕ → A) → n ≤ k → sum n (λ i. F (set_at k y f i)) ≡ sum n (λ i. F (f i))
+pub sum-set_above : {A : Type 0} (F : A → ℕ) (n k : ℕ) (y : A) (f : ℕ → A) → n ≤ k → sum n (λ i. F (set_at k y f i)) ≡ sum n (λ i. F (f i))
 unfolding sum
-sum-set-above F zero k y f h = refl
-sum-set-above F (suc n) k y f h =
-    let ih : sum n (λ i. F (set_at k y f i)) ≡ sum n (λ i. F (f i)) = sum-set-above F n k y f (omega arith) in
+sum-set_above F zero k y f h = refl
+sum-set_above F (suc n) k y f h =
+    let ih : sum n (λ i. F (set_at k y f i)) ≡ sum n (λ i. F (f i)) = sum-set_above F n k y f (omega arith) in
     grind (arith, nat_tests)
 
 -- One place of a family changed: its old term goes, its new one comes.
@@ -84,6 +84,6 @@ pub sum-set : {A : Type 0} (F : A → ℕ) (n k : ℕ) (y : A) (f : ℕ → A) �
 unfolding sum
 sum-set F zero k y f h = omega arith
 sum-set F (suc n) k y f h = elim (eqb_tells n k) [
-  | inl e ↦ let above = sum-set-above F n k y f (omega arith) in grind arith
+  | inl e ↦ let above = sum-set_above F n k y f (omega arith) in grind arith
   | inr e ↦ let ih = sum-set F n k y f (omega arith) in grind arith
 ]

@@ -23,41 +23,41 @@ module _ {m : Mem} {h : ℕ} {locked : Bool} {g : Ghost} {rs : List Route} {t : 
   solid b i z = let e = once b in grind (arith, tests)
 
   -- What is in use is held.
-  pub used-held : (b : ℕ) → 1 ≤ uses g b → m.held b ≡ true
-  used-held b i = let e = o.blocks b in elim (cases_Bool (m.held b)) [ inl d ↦ d | inr d ↦ absurd (grind (arith, tests)) ]
+  pub used_held : (b : ℕ) → 1 ≤ uses g b → m.held b ≡ true
+  used_held b i = let e = o.blocks b in elim (cases_Bool (m.held b)) [ inl d ↦ d | inr d ↦ absurd (grind (arith, tests)) ]
 
   -- It is a block that there is.
-  pub used-inside : (b : ℕ) → 1 ≤ uses g b → b < m.blocks
-  used-inside b i = o.inside b (used-held b i)
+  pub used_inside : (b : ℕ) → 1 ≤ uses g b → b < m.blocks
+  used_inside b i = o.inside b (used_held b i)
 
   -- Its number fits into a slot.
-  pub used-small : (b : ℕ) → 1 ≤ uses g b → b < 2 ^ 20
-  used-small b i = omega (arith, used-inside b i, o.sizes.blocks)
+  pub used_small : (b : ℕ) → 1 ≤ uses g b → b < 2 ^ 20
+  used_small b i = omega (arith, used_inside b i, o.sizes.blocks)
 
   -- The header is held.
-  pub header-held : m.held 0 ≡ true
-  header-held = let e = o.blocks 0 in elim (cases_Bool (m.held 0)) [ inl d ↦ d | inr d ↦ absurd (grind (arith, tests)) ]
+  pub header_held : m.held 0 ≡ true
+  header_held = let e = o.blocks 0 in elim (cases_Bool (m.held 0)) [ inl d ↦ d | inr d ↦ absurd (grind (arith, tests)) ]
 
   -- It is a block that there is.
-  pub header-inside : 0 < m.blocks
-  header-inside = o.inside 0 header-held
+  pub header_inside : 0 < m.blocks
+  header_inside = o.inside 0 header_held
 
   -- A block of the tree is neither in limbo nor fresh.
   pub tree_apart : (b : ℕ) → 1 ≤ count b g.tree → (limbo g b ≡ 0) × (cnt b g.fresh ≡ 0)
   tree_apart b i = let e = once b in (omega arith, omega arith)
 
   -- A block in limbo is neither in the tree nor fresh.
-  pub limbo-apart : (b : ℕ) → 1 ≤ limbo g b → (count b g.tree ≡ 0) × (cnt b g.fresh ≡ 0)
-  limbo-apart b i = let e = once b in (omega arith, omega arith)
+  pub limbo_apart : (b : ℕ) → 1 ≤ limbo g b → (count b g.tree ≡ 0) × (cnt b g.fresh ≡ 0)
+  limbo_apart b i = let e = once b in (omega arith, omega arith)
 
   -- A fresh block is neither in the tree nor in limbo.
-  pub fresh-apart : (b : ℕ) → 1 ≤ cnt b g.fresh → (count b g.tree ≡ 0) × (limbo g b ≡ 0)
-  fresh-apart b i = let e = once b in (omega arith, omega arith)
+  pub fresh_apart : (b : ℕ) → 1 ≤ cnt b g.fresh → (count b g.tree ≡ 0) × (limbo g b ≡ 0)
+  fresh_apart b i = let e = once b in (omega arith, omega arith)
 
   -- A linked block is not loose.
-  pub chain-apart : (b : ℕ) → 1 ≤ cnt b g.chain → cnt b g.loose ≡ 0
-  chain-apart b i = let e = once b in omega arith
+  pub chain_apart : (b : ℕ) → 1 ≤ cnt b g.chain → cnt b g.loose ≡ 0
+  chain_apart b i = let e = once b in omega arith
 
   -- A block that is not held is not in use.
-  pub free-unused : (b : ℕ) → m.held b ≡ false → uses g b ≡ 0
-  free-unused b z = let e = o.blocks b in omega (arith, ap bit z)
+  pub free_unused : (b : ℕ) → m.held b ≡ false → uses g b ≡ 0
+  free_unused b z = let e = o.blocks b in omega (arith, ap bit z)

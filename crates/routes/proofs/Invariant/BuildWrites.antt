@@ -19,11 +19,11 @@ use Rattle.routes.specs.Tree.Trees.{Tree, depth}
 use Rattle.routes.specs.Invariant.Building.{Writes, BuildFacts, PublishFacts}
 use Rattle.routes.specs.Invariant.Ghosts.{Ghost, calm}
 use Rattle.routes.specs.Invariant.Writers.{Hall, PhaseFacts}
-use Rattle.routes.proofs.Build.Stages.{stage-next, stage-end}
-use Rattle.routes.proofs.Build.Writes.{write_word, write-level}
+use Rattle.routes.proofs.Build.Stages.{stage_next, stage_end}
+use Rattle.routes.proofs.Build.Writes.{write_word, write_level}
 use Rattle.routes.proofs.Invariant.BuildStarts.{starts}
-use Rattle.routes.proofs.Invariant.GoingOn.{GoesOn, on-build, on-publish, on-if}
-use Rattle.routes.proofs.Invariant.Staging.{need-few}
+use Rattle.routes.proofs.Invariant.GoingOn.{GoesOn, on_build, on_publish, on_if}
+use Rattle.routes.proofs.Invariant.Staging.{need_few}
 
 module _ (v : ℕ → ℕ → ℕ) (hall : Hall) (g : Ghost) (o : List ℕ) (rs : List Route) (n : Now) (j : Job) (k first d i : ℕ) (s : Writes v g o rs n j k first d i) where
   -- the way of the piece, and the tree that it makes
@@ -68,41 +68,41 @@ module _ (v : ℕ → ℕ → ℕ) (hall : Hall) (g : Ghost) (o : List ℕ) (rs 
   one_more = write_word v (words_of o) g.tree s.W (edit_of s.p s.fresh) way j.need first j.retired j.root d i s.word s.deep s.write
 
   -- The last word of a level is.
-  level-more : ltb i 30 ≡ false → Write v' (words_of o) g.tree s.W (edit_of s.p s.fresh) way j.need first j.retired j.root (suc d) 0
-  level-more e =
+  level_more : ltb i 30 ≡ false → Write v' (words_of o) g.tree s.W (edit_of s.p s.fresh) way j.need first j.retired j.root (suc d) 0
+  level_more e =
       let l = ltb-false i 30 e in let h = s.word in let q : suc i ≡ 31 = omega arith in
-      write-level v' (words_of o) g.tree s.W (edit_of s.p s.fresh) way j.need first j.retired j.root d
+      write_level v' (words_of o) g.tree s.W (edit_of s.p s.fresh) way j.need first j.retired j.root d
       (subst (λ z. Write v' (words_of o) g.tree s.W (edit_of s.p s.fresh) way j.need first j.retired j.root d z) q one_more)
 
   -- The last level is: the pieces behind this one are left.
-  piece-done : ltb i 30 ≡ false → ltb (first + d + 1) j.used ≡ false → (ts : List Route) × Stage v' (words_of o) g.tree new j.need j.used j.retired j.root ts s.qs (drop (suc k) s.ps)
-  piece-done e z =
+  piece_done : ltb i 30 ≡ false → ltb (first + d + 1) j.used ≡ false → (ts : List Route) × Stage v' (words_of o) g.tree new j.need j.used j.retired j.root ts s.qs (drop (suc k) s.ps)
+  piece_done e z =
       let a = ltb-false (first + d + 1) j.used z in let b = s.deep in let c = s.uses in
       let q : suc d ≡ depth way new = omega arith in let u : first + suc d ≡ j.used = omega arith in
-      let w = subst (λ z. Write v' (words_of o) g.tree s.W (edit_of s.p s.fresh) way j.need first z j.root (suc d) 0) s.replaced (level-more e) in
-      let r = stage-next s.val v' s.own (words_of o) g.tree s.W j.need first s.retired s.root s.have j.root (suc d) s.fresh s.ts s.qs s.p (drop (suc k) s.ps) s.few s.stage q w in (
+      let w = subst (λ z. Write v' (words_of o) g.tree s.W (edit_of s.p s.fresh) way j.need first z j.root (suc d) 0) s.replaced (level_more e) in
+      let r = stage_next s.val v' s.own (words_of o) g.tree s.W j.need first s.retired s.root s.have j.root (suc d) s.fresh s.ts s.qs s.p (drop (suc k) s.ps) s.few s.stage q w in (
         r.0,
         subst (λ z. Stage v' (words_of o) g.tree new j.need z j.retired j.root r.0 s.qs (drop (suc k) s.ps)) u
             (subst (λ z. Stage v' (words_of o) g.tree new j.need (first + suc d) z j.root r.0 s.qs (drop (suc k) s.ps)) (sym s.replaced) r.1),
       )
 
   -- What comes next: a word, a level, a piece, or the publishing.
-  pub word-written : GoesOn v' hall g o rs n (after_write j k first d i)
+  pub word_written : GoesOn v' hall g o rs n (after_write j k first d i)
   unfolding PhaseFacts BuildFacts PublishFacts
-  word-written = on-if v' hall g o rs n (ltb i 30) _ _
-      (λ e. on-build v' hall g o rs n j (ToWrite k first d (i + 1))
+  word_written = on_if v' hall g o rs n (ltb i 30) _ _
+      (λ e. on_build v' hall g o rs n j (ToWrite k first d (i + 1))
       (let q : suc i ≡ i + 1 = omega arith in
       at d (i + 1) (subst (λ z. Write v' (words_of o) g.tree s.W (edit_of s.p s.fresh) way j.need first j.retired j.root d z) q one_more) s.deep (omega (arith, ltb-true i 30 e))))
-      (λ e. on-if v' hall g o rs n (ltb (first + d + 1) j.used) _ _
-      (λ z. on-build v' hall g o rs n j (ToWrite k first (d + 1) 0)
+      (λ e. on_if v' hall g o rs n (ltb (first + d + 1) j.used) _ _
+      (λ z. on_build v' hall g o rs n j (ToWrite k first (d + 1) 0)
       (let q : suc d ≡ d + 1 = omega arith in
-      at (d + 1) 0 (subst (λ z. Write v' (words_of o) g.tree s.W (edit_of s.p s.fresh) way j.need first j.retired j.root z 0) q (level-more e))
+      at (d + 1) 0 (subst (λ z. Write v' (words_of o) g.tree s.W (edit_of s.p s.fresh) way j.need first j.retired j.root z 0) q (level_more e))
       (omega (arith, ltb-true (first + d + 1) j.used z, s.uses)) (omega arith)))
-      (λ z. on-if v' hall g o rs n (ltb (k + 1) j.size) _ _ (next-piece e z) (last-piece e z)))
+      (λ z. on_if v' hall g o rs n (ltb (k + 1) j.size) _ _ (next_piece e z) (last_piece e z)))
     where
-      next-piece : ltb i 30 ≡ false → ltb (first + d + 1) j.used ≡ false → ltb (k + 1) j.size ≡ true → GoesOn v' hall g o rs n (starting j (k + 1))
-      next-piece e z l =
-          let r = piece-done e z in let q : suc k ≡ k + 1 = omega arith in
+      next_piece : ltb i 30 ≡ false → ltb (first + d + 1) j.used ≡ false → ltb (k + 1) j.size ≡ true → GoesOn v' hall g o rs n (starting j (k + 1))
+      next_piece e z l =
+          let r = piece_done e z in let q : suc k ≡ k + 1 = omega arith in
           starts v' hall g o rs n j (k + 1) new (record {
             ps = s.ps;
             qs = s.qs;
@@ -112,17 +112,17 @@ module _ (v : ℕ → ℕ → ℕ) (hall : Hall) (g : Ghost) (o : List ℕ) (rs 
             stage = subst (λ z. Stage v' (words_of o) g.tree new j.need j.used j.retired j.root r.0 s.qs (drop z s.ps)) q r.1;
           })
 
-      last-piece : ltb i 30 ≡ false → ltb (first + d + 1) j.used ≡ false → ltb (k + 1) j.size ≡ false → GoesOn v' hall g o rs n (On j (InPublish FenceNodes))
-      last-piece e z l =
-          let r = piece-done e z in let few = need-few g o rs n j calm s.ps s.qs s.equipped in
+      last_piece : ltb i 30 ≡ false → ltb (first + d + 1) j.used ≡ false → ltb (k + 1) j.size ≡ false → GoesOn v' hall g o rs n (On j (InPublish FenceNodes))
+      last_piece e z l =
+          let r = piece_done e z in let few = need_few g o rs n j calm s.ps s.qs s.equipped in
           let q : length s.ps ≤ suc k = omega (arith, ltb-false (k + 1) j.size l, s.equipped.sure.pending.length') in
           let f = subst (λ z. Stage v' (words_of o) g.tree new j.need j.used j.retired j.root r.0 s.qs z) (drop_of_length-le s.ps q) r.1 in
-          on-publish v' hall g o rs n j FenceNodes (record {
+          on_publish v' hall g o rs n j FenceNodes (record {
             ps = s.ps;
             qs = s.qs;
             W = new;
             equipped = s.equipped;
-            built = stage-end v' (words_of o) g.tree new j.need j.used j.retired j.root r.0 s.qs f;
+            built = stage_end v' (words_of o) g.tree new j.need j.used j.retired j.root r.0 s.qs f;
             spent = f.work.held.spent;
             few = omega (arith, f.slack);
           })

@@ -9,9 +9,9 @@ use Rattle.routes.specs.Invariant.Ghosts.{Ghost, Row, calm}
 use Rattle.routes.specs.Invariant.Memories.{CalmStore, RowOk, Core}
 use Rattle.routes.proofs.Late.Only.{row-stored}
 use Rattle.routes.proofs.Late.Rows.{all_end}
-use Rattle.routes.proofs.Late.Sees.{sees-untouched}
-use Rattle.routes.proofs.Late.View.{view-open, view-none, open-low, open_block}
-use Rattle.routes.proofs.Repr.Nodes.{repr-stays}
+use Rattle.routes.proofs.Late.Sees.{sees_untouched}
+use Rattle.routes.proofs.Late.View.{view_open, view_none, open_low, open_block}
+use Rattle.routes.proofs.Repr.Nodes.{repr_stays}
 use Rattle.routes.proofs.Invariant.Apart.{solid as real, once as used-once}
 
 -- A row is what its kind says.
@@ -19,38 +19,38 @@ pub row_of : (r : Row) (m : Mem) (h : ℕ) (g : Ghost) (e : ℕ) → g.row ≡ r
 row_of r m h g e d k = subst (λ z. RowOk z m h g e) d k
 
 -- And so the other way round.
-pub row-to : (r : Row) (m : Mem) (h : ℕ) (g : Ghost) (e : ℕ) → g.row ≡ r → RowOk r m h g e → RowOk g.row m h g e
-row-to r m h g e d k = subst (λ z. RowOk z m h g e) (sym d) k
+pub row_to : (r : Row) (m : Mem) (h : ℕ) (g : Ghost) (e : ℕ) → g.row ≡ r → RowOk r m h g e → RowOk g.row m h g e
+row_to r m h g e d k = subst (λ z. RowOk z m h g e) (sym d) k
 
 -- A calm row grows by a calm store that leaves EPOCH.
 pub calm_more : (m : Mem) (h : ℕ) (g g' : Ghost) (b w x : ℕ) → RowOk calm m h g (view h m 0 2) → g'.row ≡ calm → g'.fresh ≡ g.fresh → set_val b w x (view h m) 0 2 ≡ view h m 0 2 → CalmStore g.fresh (view h m 0 2) b w x →
     RowOk g'.row (counted (stored h b w x m)) h g' (set_val b w x (view h m) 0 2)
 unfolding RowOk
-calm_more m h g g' b w x all r f e k = row-to calm (counted (stored h b w x m)) h g' (set_val b w x (view h m) 0 2) r
+calm_more m h g g' b w x all r f e k = row_to calm (counted (stored h b w x m)) h g' (set_val b w x (view h m) 0 2) r
     (rw (e, f, row-stored h b w x m) (all_end (CalmStore g.fresh (view h m 0 2)) (m.late h) b w x all k))
 
 module _ (m : Mem) (h : ℕ) (locked : Bool) (g : Ghost) (rs : List Route) (t : ℕ) (c : Core m h locked g rs t) where
   -- Where nothing is late the holder sees what is there.
-  pub still-view : m.late h ≡ [] → (b w : ℕ) → masked b w ≡ false → view h m b w ≡ m.val b w
-  still-view e b w shows = view-none h m b w e shows
+  pub still_view : m.late h ≡ [] → (b w : ℕ) → masked b w ≡ false → view h m b w ≡ m.val b w
+  still_view e b w shows = view_none h m b w e shows
 
   -- In a calm row no store is to ROOT.
-  pub calm-root : g.row ≡ calm → view h m 0 1 ≡ block_of g.tree
+  pub calm_root : g.row ≡ calm → view h m 0 1 ≡ block_of g.tree
   unfolding RowOk
-  calm-root e =
-      view-open h m 0 1 (open-low 1 (omega arith) (omega arith))
-      ∙ sees-untouched (CalmStore g.fresh (view h m 0 2)) h 0 1 m (λ x k. (let z = (k.0 refl).0 in omega arith)) (row_of calm m h g (view h m 0 2) e c.row)
+  calm_root e =
+      view_open h m 0 1 (open_low 1 (omega arith) (omega arith))
+      ∙ sees_untouched (CalmStore g.fresh (view h m 0 2)) h 0 1 m (λ x k. (let z = (k.0 refl).0 in omega arith)) (row_of calm m h g (view h m 0 2) e c.row)
       ∙ c.root
 
   -- Nor to the published tree.
-  pub calm-repr : g.row ≡ calm → Repr (view h m) g.tree
+  pub calm_repr : g.row ≡ calm → Repr (view h m) g.tree
   unfolding RowOk
-  calm-repr e = repr-stays m.val (view h m) g.tree (λ b i u l.
+  calm_repr e = repr_stays m.val (view h m) g.tree (λ b i u l.
       (let ne : b ≡ 0 → ⊥ = real c b (omega arith) in
-      view-open h m b i (open_block b i ne)
-      ∙ sees-untouched (CalmStore g.fresh (view h m 0 2)) h b i m (λ x k. (let z = k.1 ne l in let o = used-once c b in omega arith)) (row_of calm m h g (view h m 0 2) e c.row)))
+      view_open h m b i (open_block b i ne)
+      ∙ sees_untouched (CalmStore g.fresh (view h m 0 2)) h b i m (λ x k. (let z = k.1 ne l in let o = used-once c b in omega arith)) (row_of calm m h g (view h m 0 2) e c.row)))
       c.repr
 
   -- Where nothing is late a tree that the holder sees is there.
-  pub still-repr : m.late h ≡ [] → (W : Tree) → ((b : ℕ) → 1 ≤ count b W → b ≡ 0 → ⊥) → Repr (view h m) W → Repr m.val W
-  still-repr e W ne r = repr-stays (view h m) m.val W (λ b i u l. sym (still-view e b i (open_block b i (ne b u)))) r
+  pub still_repr : m.late h ≡ [] → (W : Tree) → ((b : ℕ) → 1 ≤ count b W → b ≡ 0 → ⊥) → Repr (view h m) W → Repr m.val W
+  still_repr e W ne r = repr_stays (view h m) m.val W (λ b i u l. sym (still_view e b i (open_block b i (ne b u)))) r

@@ -15,36 +15,36 @@ use Rattle.routes.specs.Machine.Updates.{update_act, update_after, update_words,
 use Rattle.routes.specs.Invariant.Ghosts.{Ghost}
 use Rattle.routes.specs.Invariant.Inv.{Cpus, Inv, set_cpu}
 use Rattle.routes.specs.Invariant.Writers.{PhaseFacts}
-use Rattle.routes.proofs.Invariant.BuildReady.{build-ready}
-use Rattle.routes.proofs.Invariant.BuildTurns.{build-turn}
-use Rattle.routes.proofs.Invariant.Holding.{holder-facts, holder-room, holder-small}
-use Rattle.routes.proofs.Invariant.PublishReady.{publish-ready}
-use Rattle.routes.proofs.Invariant.PublishTurns.{publish-turn}
-use Rattle.routes.proofs.Invariant.RetireReady.{retire-ready}
-use Rattle.routes.proofs.Invariant.RetireTurns.{retire-turn}
+use Rattle.routes.proofs.Invariant.BuildReady.{build_ready}
+use Rattle.routes.proofs.Invariant.BuildTurns.{build_turn}
+use Rattle.routes.proofs.Invariant.Holding.{holder_facts, holder_room, holder_small}
+use Rattle.routes.proofs.Invariant.PublishReady.{publish_ready}
+use Rattle.routes.proofs.Invariant.PublishTurns.{publish_turn}
+use Rattle.routes.proofs.Invariant.RetireReady.{retire_ready}
+use Rattle.routes.proofs.Invariant.RetireTurns.{retire_turn}
 use Rattle.routes.proofs.Invariant.Steps.{lock_of, Turn}
-use Rattle.routes.proofs.Invariant.Taking.{takes-turn, takes-untold}
+use Rattle.routes.proofs.Invariant.Taking.{takes_turn, takes_untold}
 use Rattle.routes.proofs.Invariant.Touching.{MayAsk}
 
 -- p holds the lock, in a phase of its update
 module _ {m : Mem} {g : Ghost} {trail : ℕ → List ℕ} {s : State} {t : ℕ} {c : Cpus} {p : ℕ} (i : Inv m (lock_of p true) g trail s t c) (once : 0 < m.left) (mine : p ≡ m.who) (j : Job) where
   -- It may ask in this turn.
   asks : MayAsk m p
-  asks = record { once = once; turn = mine; inside = holder-small i }
+  asks = record { once = once; turn = mine; inside = holder_small i }
 
   -- A turn of Build may be taken.
-  pub build-may-turn : (st : Build) → c.work p ≡ Updating j (InBuild st) → UpdateReady m p j (InBuild st) (c.own p)
+  pub build_may_turn : (st : Build) → c.work p ≡ Updating j (InBuild st) → UpdateReady m p j (InBuild st) (c.own p)
   unfolding PhaseFacts
-  build-may-turn st e = build-ready m p true g s.table t i.core asks (c.own p) (s.now' p) j (holder-room i) st (holder-facts i j (InBuild st) e)
+  build_may_turn st e = build_ready m p true g s.table t i.core asks (c.own p) (s.now' p) j (holder_room i) st (holder_facts i j (InBuild st) e)
 
   -- A turn of Publish may.
-  pub publish-may-turn : (st : Publish) → UpdateReady m p j (InPublish st) (c.own p)
-  publish-may-turn st = publish-ready m p true g s.table t i.core asks j st (c.own p) (holder-room i)
+  pub publish_may_turn : (st : Publish) → UpdateReady m p j (InPublish st) (c.own p)
+  publish_may_turn st = publish_ready m p true g s.table t i.core asks j st (c.own p) (holder_room i)
 
   -- A turn of Retire may, as long as there are not too many.
-  pub retire-may-turn : suc t < 2 ^ 64 → (st : Retire) → c.work p ≡ Updating j (InRetire st) → UpdateReady m p j (InRetire st) (c.own p)
+  pub retire_may_turn : suc t < 2 ^ 64 → (st : Retire) → c.work p ≡ Updating j (InRetire st) → UpdateReady m p j (InRetire st) (c.own p)
   unfolding PhaseFacts
-  retire-may-turn few st e = retire-ready m p true g s.table t i.core (c.own p) (s.now' p) j few asks (holder-room i) st (holder-facts i j (InRetire st) e)
+  retire_may_turn few st e = retire_ready m p true g s.table t i.core (c.own p) (s.now' p) j few asks (holder_room i) st (holder_facts i j (InRetire st) e)
 
 -- what a turn in a phase leads to, by the reply: nothing is told, and the invariant holds of the registers and own words that come next
 pub record Leads (t : ℕ) (c : Cpus) (p cpus' cpus blocks : ℕ) (es : List Event) (s : State) (j : Job) (ph : Phase) (x : ℕ) (n : Mem) : Type 0 where
@@ -54,13 +54,13 @@ pub record Leads (t : ℕ) (c : Cpus) (p cpus' cpus blocks : ℕ) (es : List Eve
 module _ {m : Mem} {g : Ghost} {trail : ℕ → List ℕ} {s : State} {t : ℕ} {c : Cpus} {p cpus blocks : ℕ} {es : List Event}
     (i : Inv m (lock_of p true) g trail s t c) (r : Run cpus blocks es s) (y : T (young (s.now' p))) (j : Job) (x : ℕ) (n : Mem) where
   -- A turn of Build.
-  pub build-leads : (st : Build) → c.work p ≡ Updating j (InBuild st) → Did p (update_act p j (InBuild st) (c.own p)) m x n → Leads t c p m.cpus cpus blocks es s j (InBuild st) x n
-  build-leads st e d = let k = build-turn i r y j st e x n d in record { turn = takes-turn k; untold = takes-untold k }
+  pub build_leads : (st : Build) → c.work p ≡ Updating j (InBuild st) → Did p (update_act p j (InBuild st) (c.own p)) m x n → Leads t c p m.cpus cpus blocks es s j (InBuild st) x n
+  build_leads st e d = let k = build_turn i r y j st e x n d in record { turn = takes_turn k; untold = takes_untold k }
 
   -- A turn of Publish.
-  pub publish-leads : (st : Publish) → c.work p ≡ Updating j (InPublish st) → Did p (update_act p j (InPublish st) (c.own p)) m x n → Leads t c p m.cpus cpus blocks es s j (InPublish st) x n
-  publish-leads st e d = let k = publish-turn i r y j st e x n d in record { turn = takes-turn k; untold = takes-untold k }
+  pub publish_leads : (st : Publish) → c.work p ≡ Updating j (InPublish st) → Did p (update_act p j (InPublish st) (c.own p)) m x n → Leads t c p m.cpus cpus blocks es s j (InPublish st) x n
+  publish_leads st e d = let k = publish_turn i r y j st e x n d in record { turn = takes_turn k; untold = takes_untold k }
 
   -- A turn of Retire.
-  pub retire-leads : (st : Retire) → c.work p ≡ Updating j (InRetire st) → Did p (update_act p j (InRetire st) (c.own p)) m x n → Leads t c p m.cpus cpus blocks es s j (InRetire st) x n
-  retire-leads st e d = let k = retire-turn i r y j st e x n d in record { turn = takes-turn k; untold = takes-untold k }
+  pub retire_leads : (st : Retire) → c.work p ≡ Updating j (InRetire st) → Did p (update_act p j (InRetire st) (c.own p)) m x n → Leads t c p m.cpus cpus blocks es s j (InRetire st) x n
+  retire_leads st e d = let k = retire_turn i r y j st e x n d in record { turn = takes_turn k; untold = takes_untold k }

@@ -1,7 +1,7 @@
 -- Check: its registers are in their ranges, and what its turn asks may be asked.
 use Rattle.std.proofs.Common.{◌≡◌, ℕ, zero, suc, ◌*◌, ◌<◌, ◌≤◌, Bool, List, length, take, sym, ◌∙◌, subst, arith}
 use Rattle.words.specs.Address.{nib}
-use Rattle.words.proofs.Addresses.{nib-small, place-small}
+use Rattle.words.proofs.Addresses.{nib_small, place_small}
 use Rattle.routes.specs.declared.update.job.Job.{Job}
 use Rattle.routes.specs.declared.update.check.Check.{Check}
 use Rattle.routes.specs.declared.update.check.Check.TheVariants.{Piece as AtPiece, Root, Slot, Route as AtRoute, Reject}
@@ -15,61 +15,61 @@ use Rattle.routes.specs.Tree.Walks.{down}
 use Rattle.routes.specs.Invariant.Ghosts.{Ghost}
 use Rattle.routes.specs.Invariant.Memories.{Core}
 use Rattle.routes.specs.Invariant.Checking.{Checked, OnWay, CheckFacts}
-use Rattle.routes.proofs.Tree.Trees.{count-kid, count-block}
-use Rattle.routes.proofs.Build.Stages.{wants-few}
-use Rattle.routes.proofs.Invariant.Apart.{uses, used-held, used-inside, header-held, header-inside}
+use Rattle.routes.proofs.Tree.Trees.{count_kid, count_block}
+use Rattle.routes.proofs.Build.Stages.{wants_few}
+use Rattle.routes.proofs.Invariant.Apart.{uses, used_held, used_inside, header_held, header_inside}
 use Rattle.routes.proofs.Invariant.Passing.{take-length}
 
 -- Each piece before the one in hand asked for at most nine blocks.
 at_piece : {g : Ghost} {o : List ℕ} {rs : List Route} {n : Now} {j : Job} {k : ℕ} → Checked g o rs n j k → AtPieceOk j k
 at_piece {rs = rs} {j = j} {k = k} c =
     let l = take-length k c.ps (omega (arith, c.here, c.pending.length')) in
-    let w = wants-few (take k c.ps) rs c.passes.0 c.passes.1 in
+    let w = wants_few (take k c.ps) rs c.passes.0 c.passes.1 in
     let w' : wants (take k c.ps) ≤ 9 * k = subst (λ z. wants (take k c.ps) ≤ 9 * z) l w in
     (c.here, c.pending.few, omega (arith, c.need, w'))
 
 -- The registers of Check are in their ranges.
-pub check-ok : (g : Ghost) (o : List ℕ) (rs : List Route) (n : Now) (j : Job) (s : Check) → CheckFacts g o rs n j s → CheckOk j s o
+pub check_ok : (g : Ghost) (o : List ℕ) (rs : List Route) (n : Now) (j : Job) (s : Check) → CheckFacts g o rs n j s → CheckOk j s o
 unfolding CheckFacts
-check-ok g o rs n j (AtPiece k) f = at_piece f
-check-ok g o rs n j (Root k) f = (at_piece f.0, f.1.clean')
-check-ok g o rs n j (Slot k d b) f = (at_piece f.0, f.1.clean', f.3)
-check-ok g o rs n j (AtRoute k b) f = (at_piece f.0, f.1.clean')
-check-ok g o rs n j (Reject why) f = tt
+check_ok g o rs n j (AtPiece k) f = at_piece f
+check_ok g o rs n j (Root k) f = (at_piece f.0, f.1.clean')
+check_ok g o rs n j (Slot k d b) f = (at_piece f.0, f.1.clean', f.3)
+check_ok g o rs n j (AtRoute k b) f = (at_piece f.0, f.1.clean')
+check_ok g o rs n j (Reject why) f = tt
 
 -- A node on a way is one of the tree.
 pub count_down : (b a e : ℕ) (t : Tree) → count b (down a e t) ≤ count b t
 unfolding down
 count_down b a zero t = omega arith
-count_down b a (suc e) t = omega (arith, count-kid b (down a e t) (nib e a) (nib-small e a), count_down b a e t)
+count_down b a (suc e) t = omega (arith, count_kid b (down a e t) (nib e a) (nib_small e a), count_down b a e t)
 
 module _ {m : Mem} {h : ℕ} {locked : Bool} {g : Ghost} {rs : List Route} {t : ℕ} (core : Core m h locked g rs t) (p : ℕ) (left : 0 < m.left) (turn : p ≡ m.who) (small : p < m.cpus) where
   -- The header may be touched.
-  pub header-touch : (w : ℕ) → w < 48 → MayTouch m p 0 w
-  header-touch w l = (left, turn, small, header-inside core, rw (header-held core) tt, l)
+  pub header_touch : (w : ℕ) → w < 48 → MayTouch m p 0 w
+  header_touch w l = (left, turn, small, header_inside core, rw (header_held core) tt, l)
 
   -- So may what is in the tree.
-  pub tree-touch : (b w : ℕ) → 1 ≤ count b g.tree → w < 48 → MayTouch m p b w
-  tree-touch b w i l =
+  pub tree_touch : (b w : ℕ) → 1 ≤ count b g.tree → w < 48 → MayTouch m p b w
+  tree_touch b w i l =
       let u : 1 ≤ uses g b = omega arith in
-      (left, turn, small, used-inside core b u, rw (used-held core b u) tt, l)
+      (left, turn, small, used_inside core b u, rw (used_held core b u) tt, l)
 
   -- So may a node on the way.
-  way-touch : (o : List ℕ) (k d b w : ℕ) → OnWay g o k d b → w < 48 → MayTouch m p b w
-  way-touch o k d b w x l = tree-touch b w (subst (λ z. 1 ≤ count z g.tree) (sym x.here) (omega (arith, count_down (block_of node) (piece_in o k).bits d g.tree, count-block node (λ z. x.real (x.here ∙ z))))) l
+  way_touch : (o : List ℕ) (k d b w : ℕ) → OnWay g o k d b → w < 48 → MayTouch m p b w
+  way_touch o k d b w x l = tree_touch b w (subst (λ z. 1 ≤ count z g.tree) (sym x.here) (omega (arith, count_down (block_of node) (piece_in o k).bits d g.tree, count_block node (λ z. x.real (x.here ∙ z))))) l
     where
       node : Tree
       node = down (piece_in o k).bits d g.tree
 
   -- What Check asks may be asked.
-  pub check-may : (o : List ℕ) (n : Now) (j : Job) (s : Check) → CheckFacts g o rs n j s → MayDo m p (check_act p s o)
+  pub check_may : (o : List ℕ) (n : Now) (j : Job) (s : Check) → CheckFacts g o rs n j s → MayDo m p (check_act p s o)
   unfolding CheckFacts
-  check-may o n j (AtPiece k) f = tt
-  check-may o n j (Root k) f = header-touch 1 (omega arith)
-  check-may o n j (Slot k d b) f = way-touch o k d b _ f.2 (omega (arith, nib-small d (piece_in o k).bits))
-  check-may o n j (AtRoute k b) f = way-touch o k _ b _ f.2 (omega (arith, place-small (piece_in o k).len (piece_in o k).bits))
-  check-may o n j (Reject why) f = header-touch 0 (omega arith)
+  check_may o n j (AtPiece k) f = tt
+  check_may o n j (Root k) f = header_touch 1 (omega arith)
+  check_may o n j (Slot k d b) f = way_touch o k d b _ f.2 (omega (arith, nib_small d (piece_in o k).bits))
+  check_may o n j (AtRoute k b) f = way_touch o k _ b _ f.2 (omega (arith, place_small (piece_in o k).len (piece_in o k).bits))
+  check_may o n j (Reject why) f = header_touch 0 (omega arith)
 
   -- So its turn may be taken.
-  pub check-ready : (o : List ℕ) (n : Now) (j : Job) (s : Check) → length o ≡ 4096 → CheckFacts g o rs n j s → CheckReady m p j s o
-  check-ready o n j s l f = record { ok = check-ok g o rs n j s f; room = l; may = check-may o n j s f }
+  pub check_ready : (o : List ℕ) (n : Now) (j : Job) (s : Check) → length o ≡ 4096 → CheckFacts g o rs n j s → CheckReady m p j s o
+  check_ready o n j s l f = record { ok = check_ok g o rs n j s f; room = l; may = check_may o n j s f }

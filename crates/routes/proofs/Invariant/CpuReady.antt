@@ -12,10 +12,10 @@ use Rattle.routes.specs.Machine.Updates.{UpdateReady}
 use Rattle.routes.specs.Invariant.Ghosts.{Ghost}
 use Rattle.routes.specs.Invariant.Inv.{Lock, Cpus, Inv}
 use Rattle.routes.specs.Invariant.Registers.{holds, holds_in}
-use Rattle.routes.proofs.Invariant.HolderReady.{holder-ready}
-use Rattle.routes.proofs.Invariant.LockTurns.{lock-ready}
-use Rattle.routes.proofs.Invariant.LookupReady.{lookup-ok, lookup-may}
-use Rattle.routes.proofs.Invariant.Steps.{lock_of, holder-is}
+use Rattle.routes.proofs.Invariant.HolderReady.{holder_ready}
+use Rattle.routes.proofs.Invariant.LockTurns.{lock_ready}
+use Rattle.routes.proofs.Invariant.LookupReady.{lookup_ok, lookup_may}
+use Rattle.routes.proofs.Invariant.Steps.{lock_of, holder_is}
 
 -- what p needs to take its turn, with this in its registers
 abbrev ReadyFor : Mem → ℕ → List ℕ → Work → Type 0
@@ -24,33 +24,33 @@ ReadyFor m p o w = Ready m p (record { work = w }) o
 module _ {m : Mem} {k : Lock} {g : Ghost} {trail : ℕ → List ℕ} {s : State} {t : ℕ} {c : Cpus} {p : ℕ}
     (i : Inv m k g trail s t c) (left : 0 < m.left) (mine : p ≡ m.who) (small : p < m.cpus) (soon : suc t < 2 ^ 64) where
   -- An update that holds the lock.
-  held-turn : (j : Job) (ph : Phase) → holds_in ph ≡ true → c.work p ≡ Updating j ph → ReadyFor m p (c.own p) (Updating j ph)
+  held_turn : (j : Job) (ph : Phase) → holds_in ph ≡ true → c.work p ≡ Updating j ph → ReadyFor m p (c.own p) (Updating j ph)
   unfolding holds
-  held-turn j ph h e =
-      let l : k ≡ lock_of p true = holder-is i p (subst (λ w. holds w ≡ true) (sym e) h) in
-      let r : UpdateReady m p j ph (c.own p) = holder-ready (subst (λ z. Inv m z g trail s t c) l i) left mine soon j ph h e in
+  held_turn j ph h e =
+      let l : k ≡ lock_of p true = holder_is i p (subst (λ w. holds w ≡ true) (sym e) h) in
+      let r : UpdateReady m p j ph (c.own p) = holder_ready (subst (λ z. Inv m z g trail s t c) l i) left mine soon j ph h e in
       record { ok = r.ok; room = r.room; may = r.may }
 
   -- Any update.
-  update-turn : (j : Job) (ph : Phase) → c.work p ≡ Updating j ph → ReadyFor m p (c.own p) (Updating j ph)
+  update_turn : (j : Job) (ph : Phase) → c.work p ≡ Updating j ph → ReadyFor m p (c.own p) (Updating j ph)
   unfolding holds_in
-  update-turn j Refuse e = record { ok = tt; room = i.room p small; may = tt }
-  update-turn j AtLock e = let r = lock-ready i j e left mine in record { ok = r.ok; room = r.room; may = r.may }
-  update-turn j (Check x) e = held-turn j (Check x) refl e
-  update-turn j (Obtain x) e = held-turn j (Obtain x) refl e
-  update-turn j (Recycle x) e = held-turn j (Recycle x) refl e
-  update-turn j (Scan x) e = held-turn j (Scan x) refl e
-  update-turn j (Build x) e = held-turn j (Build x) refl e
-  update-turn j (Publish x) e = held-turn j (Publish x) refl e
-  update-turn j (Retire x) e = held-turn j (Retire x) refl e
-  update-turn j (Reclaim x) e = held-turn j (Reclaim x) refl e
-  update-turn j (Finish x) e = held-turn j (Finish x) refl e
+  update_turn j Refuse e = record { ok = tt; room = i.room p small; may = tt }
+  update_turn j AtLock e = let r = lock_ready i j e left mine in record { ok = r.ok; room = r.room; may = r.may }
+  update_turn j (Check x) e = held_turn j (Check x) refl e
+  update_turn j (Obtain x) e = held_turn j (Obtain x) refl e
+  update_turn j (Recycle x) e = held_turn j (Recycle x) refl e
+  update_turn j (Scan x) e = held_turn j (Scan x) refl e
+  update_turn j (Build x) e = held_turn j (Build x) refl e
+  update_turn j (Publish x) e = held_turn j (Publish x) refl e
+  update_turn j (Retire x) e = held_turn j (Retire x) refl e
+  update_turn j (Reclaim x) e = held_turn j (Reclaim x) refl e
+  update_turn j (Finish x) e = held_turn j (Finish x) refl e
 
   -- Whatever is under way.
-  pub cpu-ready : ReadyFor m p (c.own p) (c.work p)
-  cpu-ready = go (c.work p) refl
+  pub cpu_ready : ReadyFor m p (c.own p) (c.work p)
+  cpu_ready = go (c.work p) refl
     where
       go : (w : Work) → c.work p ≡ w → ReadyFor m p (c.own p) w
       go Idle e = record { ok = tt; room = i.room p small; may = tt }
-      go (Looking l) e = record { ok = lookup-ok p i l e soon; room = i.room p small; may = lookup-may p i l e (left, mine, small) }
-      go (Updating j ph) e = update-turn j ph e
+      go (Looking l) e = record { ok = lookup_ok p i l e soon; room = i.room p small; may = lookup_may p i l e (left, mine, small) }
+      go (Updating j ph) e = update_turn j ph e

@@ -24,33 +24,33 @@ use Rattle.routes.specs.Invariant.Gathering.{ObtainFacts, RecycleFacts}
 use Rattle.routes.specs.Invariant.Retiring.{ReclaimFacts, FinishFacts}
 use Rattle.routes.specs.Invariant.Writers.{PhaseFacts, ScanFacts}
 use Rattle.routes.specs.Invariant.Inv.{Inv, Cpus}
-use Rattle.routes.proofs.Invariant.Apart.{uses, solid, used-held, used-inside, header-held, header-inside}
-use Rattle.routes.proofs.Invariant.HeadRows.{heads-row, heads-none-to}
-use Rattle.routes.proofs.Invariant.Holding.{holder-small, holder-room, holder-facts}
-use Rattle.routes.proofs.Invariant.Needs.{need-few}
-use Rattle.routes.proofs.Invariant.Obtains.{undo-used, undo-block}
-use Rattle.routes.proofs.Invariant.Recycles.{oldest-in}
-use Rattle.routes.proofs.Invariant.Reclaims.{unused-used, unused-block}
+use Rattle.routes.proofs.Invariant.Apart.{uses, solid, used_held, used_inside, header_held, header_inside}
+use Rattle.routes.proofs.Invariant.HeadRows.{heads_row, heads_none_to}
+use Rattle.routes.proofs.Invariant.Holding.{holder_small, holder_room, holder_facts}
+use Rattle.routes.proofs.Invariant.Needs.{need_few}
+use Rattle.routes.proofs.Invariant.Obtains.{undo_used, undo_block}
+use Rattle.routes.proofs.Invariant.Recycles.{oldest_in}
+use Rattle.routes.proofs.Invariant.Reclaims.{unused_used, unused_block}
 use Rattle.routes.proofs.Invariant.Steps.{lock_of}
 
 module _ {m : Mem} {g : Ghost} {trail : ℕ → List ℕ} {s : State} {t : ℕ} {c : Cpus} {p : ℕ} (i : Inv m (lock_of p true) g trail s t c) (left : 0 < m.left) (mine : p ≡ m.who) where
   -- A block in use may be touched.
-  pub touch-used : (b w : ℕ) → 1 ≤ uses g b → w < 48 → MayTouch m p b w
-  touch-used b w n l = (left, mine, holder-small i, used-inside i.core b n, rw (used-held i.core b n) tt, l)
+  pub touch_used : (b w : ℕ) → 1 ≤ uses g b → w < 48 → MayTouch m p b w
+  touch_used b w n l = (left, mine, holder_small i, used_inside i.core b n, rw (used_held i.core b n) tt, l)
 
   -- So may the header.
-  pub touch-header : (w : ℕ) → w < 48 → MayTouch m p 0 w
-  touch-header w l = (left, mine, holder-small i, header-inside i.core, rw (header-held i.core) tt, l)
+  pub touch_header : (w : ℕ) → w < 48 → MayTouch m p 0 w
+  touch_header w l = (left, mine, holder_small i, header_inside i.core, rw (header_held i.core) tt, l)
 
   -- The oldest retired node may be touched.
-  touch-oldest : (b w : ℕ) → Oldest g b → w < 48 → MayTouch m p b w
-  touch-oldest b w e l = touch-used b w (let z = oldest-in i b e in omega arith) l
+  touch_oldest : (b w : ℕ) → Oldest g b → w < 48 → MayTouch m p b w
+  touch_oldest b w e l = touch_used b w (let z = oldest_in i b e in omega arith) l
 
   -- A block in use may be given back where late stores go to LIMBO_HEAD and LIMBO_TAIL only.
-  pub release-used : (b : ℕ) → g.row ≡ heads → 1 ≤ uses g b → MayRelease m p b
-  release-used b e n =
+  pub release_used : (b : ℕ) → g.row ≡ heads → 1 ≤ uses g b → MayRelease m p b
+  release_used b e n =
       let real = solid i.core b n in
-      (left, mine, holder-small i, positive b real, used-inside i.core b n, rw (used-held i.core b n) tt, heads-none-to m p b i.core.others (heads-row m p true g s.table t i.core e) real)
+      (left, mine, holder_small i, positive b real, used_inside i.core b n, rw (used_held i.core b n) tt, heads_none_to m p b i.core.others (heads_row m p true g s.table t i.core e) real)
     where
       positive : (b : ℕ) → (b ≡ 0 → ⊥) → 0 < b
       positive b n = omega arith
@@ -61,67 +61,67 @@ module _ {m : Mem} {g : Ghost} {trail : ℕ → List ℕ} {s : State} {t : ℕ} 
     o = c.own p
 
     -- Obtain.
-    pub obtain-ready : (st : Obtain) → c.work p ≡ Updating j (InObtain st) → UpdateReady m p j (InObtain st) o
+    pub obtain_ready : (st : Obtain) → c.work p ≡ Updating j (InObtain st) → UpdateReady m p j (InObtain st) o
     unfolding PhaseFacts ObtainFacts
-    obtain-ready Get e = let f = holder-facts i j (InObtain Get) e in
-        record { ok = (f.wants', need-few f.gathered.sure); room = holder-room i; may = (left, mine, holder-small i) }
-    obtain-ready Undo e = let f = holder-facts i j (InObtain Undo) e in
+    obtain_ready Get e = let f = holder_facts i j (InObtain Get) e in
+        record { ok = (f.wants', need_few f.gathered.sure); room = holder_room i; may = (left, mine, holder_small i) }
+    obtain_ready Undo e = let f = holder_facts i j (InObtain Undo) e in
         record {
           ok = (f.1, f.0.few);
-          room = holder-room i;
-          may = rw (undo-block i j e) (release-used _ f.0.has.row (undo-used i j e));
+          room = holder_room i;
+          may = rw (undo_block i j e) (release_used _ f.0.has.row (undo_used i j e));
         }
-    obtain-ready Full e = record { ok = tt; room = holder-room i; may = touch-header 0 (omega arith) }
+    obtain_ready Full e = record { ok = tt; room = holder_room i; may = touch_header 0 (omega arith) }
 
     -- Recycle.
-    pub recycle-ready : (st : Recycle) → c.work p ≡ Updating j (InRecycle st) → UpdateReady m p j (InRecycle st) o
+    pub recycle_ready : (st : Recycle) → c.work p ≡ Updating j (InRecycle st) → UpdateReady m p j (InRecycle st) o
     unfolding PhaseFacts RecycleFacts
-    recycle-ready OldHead e = record { ok = tt; room = holder-room i; may = touch-header 3 (omega arith) }
-    recycle-ready (OldAt b) e = let f = holder-facts i j (InRecycle (OldAt b)) e in
-        record { ok = tt; room = holder-room i; may = touch-oldest b 31 f.1 (omega arith) }
-    recycle-ready (OldNext b grace) e = let f = holder-facts i j (InRecycle (OldNext b grace)) e in
-        record { ok = tt; room = holder-room i; may = touch-oldest b 32 f.1 (omega arith) }
-    recycle-ready (OldSetHead b next grace) e = let f = holder-facts i j (InRecycle (OldSetHead b next grace)) e in
-        record { ok = (f.0.wants', need-few f.0.gathered.sure); room = holder-room i; may = touch-header 3 (omega arith) }
-    recycle-ready OldSetTail e = record { ok = tt; room = holder-room i; may = touch-header 4 (omega arith) }
+    recycle_ready OldHead e = record { ok = tt; room = holder_room i; may = touch_header 3 (omega arith) }
+    recycle_ready (OldAt b) e = let f = holder_facts i j (InRecycle (OldAt b)) e in
+        record { ok = tt; room = holder_room i; may = touch_oldest b 31 f.1 (omega arith) }
+    recycle_ready (OldNext b grace) e = let f = holder_facts i j (InRecycle (OldNext b grace)) e in
+        record { ok = tt; room = holder_room i; may = touch_oldest b 32 f.1 (omega arith) }
+    recycle_ready (OldSetHead b next grace) e = let f = holder_facts i j (InRecycle (OldSetHead b next grace)) e in
+        record { ok = (f.0.wants', need_few f.0.gathered.sure); room = holder_room i; may = touch_header 3 (omega arith) }
+    recycle_ready OldSetTail e = record { ok = tt; room = holder_room i; may = touch_header 4 (omega arith) }
 
     -- Scan: an epoch is at most the number of turns.
-    pub scan-ready : t < 2 ^ 64 → (st : Scan) → c.work p ≡ Updating j (InScan st) → UpdateReady m p j (InScan st) o
+    pub scan_ready : t < 2 ^ 64 → (st : Scan) → c.work p ≡ Updating j (InScan st) → UpdateReady m p j (InScan st) o
     unfolding PhaseFacts ScanFacts
-    scan-ready soon (ForNode q b stamp) e = let f = holder-facts i j (InScan (ForNode q b stamp)) e in
+    scan_ready soon (ForNode q b stamp) e = let f = holder_facts i j (InScan (ForNode q b stamp)) e in
         record {
-          ok = (omega (arith, f.here, i.core.sizes.cpus), omega (arith, f.stamped, (i.core.sight.stamped b (oldest-in i b f.oldest)).1, i.core.sight.early));
-          room = holder-room i;
-          may = touch-header (16 + q) (omega (arith, f.here, i.core.sizes.cpus));
+          ok = (omega (arith, f.here, i.core.sizes.cpus), omega (arith, f.stamped, (i.core.sight.stamped b (oldest_in i b f.oldest)).1, i.core.sight.early));
+          room = holder_room i;
+          may = touch_header (16 + q) (omega (arith, f.here, i.core.sizes.cpus));
         }
-    scan-ready soon (ForLimit q limit) e = let f = holder-facts i j (InScan (ForLimit q limit)) e in
-        record { ok = omega (arith, f.1, i.core.sizes.cpus); room = holder-room i; may = touch-header (16 + q) (omega (arith, f.1, i.core.sizes.cpus)) }
+    scan_ready soon (ForLimit q limit) e = let f = holder_facts i j (InScan (ForLimit q limit)) e in
+        record { ok = omega (arith, f.1, i.core.sizes.cpus); room = holder_room i; may = touch_header (16 + q) (omega (arith, f.1, i.core.sizes.cpus)) }
 
     -- Reclaim.
-    pub reclaim-ready : (st : Reclaim) → c.work p ≡ Updating j (InReclaim st) → UpdateReady m p j (InReclaim st) o
+    pub reclaim_ready : (st : Reclaim) → c.work p ≡ Updating j (InReclaim st) → UpdateReady m p j (InReclaim st) o
     unfolding PhaseFacts ReclaimFacts cnt
-    reclaim-ready (Head grace n) e = record { ok = tt; room = holder-room i; may = touch-header 3 (omega arith) }
-    reclaim-ready (RetiredAt grace n b) e = let f = holder-facts i j (InReclaim (RetiredAt grace n b)) e in
-        record { ok = tt; room = holder-room i; may = touch-oldest b 31 f.1 (omega arith) }
-    reclaim-ready (Next grace n b) e = let f = holder-facts i j (InReclaim (Next grace n b)) e in
-        record { ok = tt; room = holder-room i; may = touch-oldest b 32 f.1 (omega arith) }
-    reclaim-ready (SetHead grace n b next) e = record { ok = tt; room = holder-room i; may = touch-header 3 (omega arith) }
-    reclaim-ready (SetTail grace n b) e = record { ok = tt; room = holder-room i; may = touch-header 4 (omega arith) }
-    reclaim-ready (Release grace n b) e = let f = holder-facts i j (InReclaim (Release grace n b)) e in
+    reclaim_ready (Head grace n) e = record { ok = tt; room = holder_room i; may = touch_header 3 (omega arith) }
+    reclaim_ready (RetiredAt grace n b) e = let f = holder_facts i j (InReclaim (RetiredAt grace n b)) e in
+        record { ok = tt; room = holder_room i; may = touch_oldest b 31 f.1 (omega arith) }
+    reclaim_ready (Next grace n b) e = let f = holder_facts i j (InReclaim (Next grace n b)) e in
+        record { ok = tt; room = holder_room i; may = touch_oldest b 32 f.1 (omega arith) }
+    reclaim_ready (SetHead grace n b next) e = record { ok = tt; room = holder_room i; may = touch_header 3 (omega arith) }
+    reclaim_ready (SetTail grace n b) e = record { ok = tt; room = holder_room i; may = touch_header 4 (omega arith) }
+    reclaim_ready (Release grace n b) e = let f = holder_facts i j (InReclaim (Release grace n b)) e in
         record {
           ok = tt;
-          room = holder-room i;
-          may = release-used b f.0.has.row
+          room = holder_room i;
+          may = release_used b f.0.has.row
               (let z : 1 ≤ cnt b g.loose = subst (λ l. 1 ≤ cnt b l) (sym f.0.has.loose) (rw (eq-eqb b b refl) (omega arith)) in omega arith);
         }
 
     -- Finish.
-    pub finish-ready : (st : Finish) → c.work p ≡ Updating j (InFinish st) → UpdateReady m p j (InFinish st) o
+    pub finish_ready : (st : Finish) → c.work p ≡ Updating j (InFinish st) → UpdateReady m p j (InFinish st) o
     unfolding PhaseFacts FinishFacts
-    finish-ready Unused e = let f = holder-facts i j (InFinish Unused) e in
+    finish_ready Unused e = let f = holder_facts i j (InFinish Unused) e in
         record {
           ok = omega (arith, f.1, f.0.retires.few);
-          room = holder-room i;
-          may = rw (unused-block i j e) (release-used _ f.0.retires.has.row (unused-used i j e));
+          room = holder_room i;
+          may = rw (unused_block i j e) (release_used _ f.0.retires.has.row (unused_used i j e));
         }
-    finish-ready Unlock e = record { ok = tt; room = holder-room i; may = touch-header 0 (omega arith) }
+    finish_ready Unlock e = record { ok = tt; room = holder_room i; may = touch_header 0 (omega arith) }

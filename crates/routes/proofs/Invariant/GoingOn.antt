@@ -25,27 +25,27 @@ pub record GoesOn (v : ℕ → ℕ → ℕ) (hall : Hall) (g : Ghost) (o : List 
 
 module _ (v : ℕ → ℕ → ℕ) (hall : Hall) (g : Ghost) (o : List ℕ) (rs : List Route) (n : Now) where
   -- To a state of Build.
-  pub on-build : (j : Job) (s : Build) → PhaseFacts v hall g o rs n j (InBuild s) → GoesOn v hall g o rs n (On j (InBuild s))
+  pub on_build : (j : Job) (s : Build) → PhaseFacts v hall g o rs n j (InBuild s) → GoesOn v hall g o rs n (On j (InBuild s))
   unfolding holds_in passed_in
-  on-build j s f = record { job = j; phase = InBuild s; is = refl; facts = f; holds' = refl; unpassed = λ cpus. refl }
+  on_build j s f = record { job = j; phase = InBuild s; is = refl; facts = f; holds' = refl; unpassed = λ cpus. refl }
 
   -- To a state of Publish.
-  pub on-publish : (j : Job) (s : Publish) → PhaseFacts v hall g o rs n j (InPublish s) → GoesOn v hall g o rs n (On j (InPublish s))
+  pub on_publish : (j : Job) (s : Publish) → PhaseFacts v hall g o rs n j (InPublish s) → GoesOn v hall g o rs n (On j (InPublish s))
   unfolding holds_in passed_in
-  on-publish j s f = record { job = j; phase = InPublish s; is = refl; facts = f; holds' = refl; unpassed = λ cpus. refl }
+  on_publish j s f = record { job = j; phase = InPublish s; is = refl; facts = f; holds' = refl; unpassed = λ cpus. refl }
 
   -- To a state of Retire, by a test.
-  pub on-retire : (j : Job) (b : Bool) (x y : Retire) → PhaseFacts v hall g o rs n j (cond b (InRetire x) (InRetire y)) → GoesOn v hall g o rs n (On j (cond b (InRetire x) (InRetire y)))
+  pub on_retire : (j : Job) (b : Bool) (x y : Retire) → PhaseFacts v hall g o rs n j (cond b (InRetire x) (InRetire y)) → GoesOn v hall g o rs n (On j (cond b (InRetire x) (InRetire y)))
   unfolding holds_in passed_in
-  on-retire j true x y f = record { job = j; phase = InRetire x; is = refl; facts = f; holds' = refl; unpassed = λ cpus. refl }
-  on-retire j false x y f = record { job = j; phase = InRetire y; is = refl; facts = f; holds' = refl; unpassed = λ cpus. refl }
+  on_retire j true x y f = record { job = j; phase = InRetire x; is = refl; facts = f; holds' = refl; unpassed = λ cpus. refl }
+  on_retire j false x y f = record { job = j; phase = InRetire y; is = refl; facts = f; holds' = refl; unpassed = λ cpus. refl }
 
   -- By a test.
-  pub on-if : (b : Bool) (x y : UpdateNext) → (b ≡ true → GoesOn v hall g o rs n x) → (b ≡ false → GoesOn v hall g o rs n y) → GoesOn v hall g o rs n (cond b x y)
-  on-if true x y f h = f refl
-  on-if false x y f h = h refl
+  pub on_if : (b : Bool) (x y : UpdateNext) → (b ≡ true → GoesOn v hall g o rs n x) → (b ≡ false → GoesOn v hall g o rs n y) → GoesOn v hall g o rs n (cond b x y)
+  on_if true x y f h = f refl
+  on_if false x y f h = h refl
 
   -- The facts of a phase, by a test.
-  pub facts-if : (j : Job) (b : Bool) (x y : Phase) → (b ≡ true → PhaseFacts v hall g o rs n j x) → (b ≡ false → PhaseFacts v hall g o rs n j y) → PhaseFacts v hall g o rs n j (cond b x y)
-  facts-if j true x y f h = f refl
-  facts-if j false x y f h = h refl
+  pub facts_if : (j : Job) (b : Bool) (x y : Phase) → (b ≡ true → PhaseFacts v hall g o rs n j x) → (b ≡ false → PhaseFacts v hall g o rs n j y) → PhaseFacts v hall g o rs n j (cond b x y)
+  facts_if j true x y f h = f refl
+  facts_if j false x y f h = h refl

@@ -12,24 +12,24 @@ use Rattle.routes.specs.Invariant.Inv.{Cpus, Inv}
 use Rattle.routes.specs.Invariant.Registers.{holds_in}
 use Rattle.routes.specs.Invariant.Writers.{PhaseFacts}
 use Rattle.std.proofs.lemmas.Bool.{false≢true}
-use Rattle.routes.proofs.Invariant.ChangeTurns.{build-may-turn, publish-may-turn, retire-may-turn}
-use Rattle.routes.proofs.Invariant.CheckReady.{check-ready}
-use Rattle.routes.proofs.Invariant.GatherReady.{obtain-ready, recycle-ready, scan-ready, reclaim-ready, finish-ready}
-use Rattle.routes.proofs.Invariant.Holding.{holder-facts, holder-room, holder-small}
+use Rattle.routes.proofs.Invariant.ChangeTurns.{build_may_turn, publish_may_turn, retire_may_turn}
+use Rattle.routes.proofs.Invariant.CheckReady.{check_ready}
+use Rattle.routes.proofs.Invariant.GatherReady.{obtain_ready, recycle_ready, scan_ready, reclaim_ready, finish_ready}
+use Rattle.routes.proofs.Invariant.Holding.{holder_facts, holder_room, holder_small}
 use Rattle.routes.proofs.Invariant.Steps.{lock_of}
 
 module _ {m : Mem} {g : Ghost} {trail : ℕ → List ℕ} {s : State} {t : ℕ} {c : Cpus} {p : ℕ} (i : Inv m (lock_of p true) g trail s t c) (left : 0 < m.left) (mine : p ≡ m.who) (soon : suc t < 2 ^ 64) (j : Job) where
   -- Whatever the phase.
-  pub holder-ready : (ph : Phase) → holds_in ph ≡ true → c.work p ≡ Updating j ph → UpdateReady m p j ph (c.own p)
+  pub holder_ready : (ph : Phase) → holds_in ph ≡ true → c.work p ≡ Updating j ph → UpdateReady m p j ph (c.own p)
   unfolding holds_in PhaseFacts
-  holder-ready Refuse h e = absurd (false≢true h)
-  holder-ready AtLock h e = absurd (false≢true h)
-  holder-ready (Check k) h e = check-ready i.core p left mine (holder-small i) (c.own p) (s.now' p) j k (holder-room i) (holder-facts i j (Check k) e)
-  holder-ready (Obtain k) h e = obtain-ready i left mine j k e
-  holder-ready (Recycle k) h e = recycle-ready i left mine j k e
-  holder-ready (Scan k) h e = scan-ready i left mine j (omega arith) k e
-  holder-ready (Build k) h e = build-may-turn i left mine j k e
-  holder-ready (Publish k) h e = publish-may-turn i left mine j k
-  holder-ready (Retire k) h e = retire-may-turn i left mine j soon k e
-  holder-ready (Reclaim k) h e = reclaim-ready i left mine j k e
-  holder-ready (Finish k) h e = finish-ready i left mine j k e
+  holder_ready Refuse h e = absurd (false≢true h)
+  holder_ready AtLock h e = absurd (false≢true h)
+  holder_ready (Check k) h e = check_ready i.core p left mine (holder_small i) (c.own p) (s.now' p) j k (holder_room i) (holder_facts i j (Check k) e)
+  holder_ready (Obtain k) h e = obtain_ready i left mine j k e
+  holder_ready (Recycle k) h e = recycle_ready i left mine j k e
+  holder_ready (Scan k) h e = scan_ready i left mine j (omega arith) k e
+  holder_ready (Build k) h e = build_may_turn i left mine j k e
+  holder_ready (Publish k) h e = publish_may_turn i left mine j k
+  holder_ready (Retire k) h e = retire_may_turn i left mine j soon k e
+  holder_ready (Reclaim k) h e = reclaim_ready i left mine j k e
+  holder_ready (Finish k) h e = finish_ready i left mine j k e

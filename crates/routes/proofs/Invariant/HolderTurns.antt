@@ -17,11 +17,11 @@ use Rattle.routes.specs.Invariant.Inv.{Cpus, Inv, set_cpu}
 use Rattle.routes.specs.Invariant.Registers.{holds_in}
 use Rattle.routes.specs.Invariant.Known.{seen_of}
 use Rattle.std.proofs.lemmas.Bool.{false≢true}
-use Rattle.routes.proofs.Invariant.ChangeTurns.{Leads as ChangeLeads, build-leads, publish-leads, retire-leads}
-use Rattle.routes.proofs.Invariant.CheckTurns.{check-turn}
-use Rattle.routes.proofs.Invariant.Fencing.{turn-later}
-use Rattle.routes.proofs.Invariant.GatherTurns.{TurnOn, get-turn, undo-turn, recycle-turn, scan-turn, reclaim-turn, unused-turn}
-use Rattle.routes.proofs.Invariant.LockTurns.{full-told-turn, done-told-turn}
+use Rattle.routes.proofs.Invariant.ChangeTurns.{Leads as ChangeLeads, build_leads, publish_leads, retire_leads}
+use Rattle.routes.proofs.Invariant.CheckTurns.{check_turn}
+use Rattle.routes.proofs.Invariant.Fencing.{turn_later}
+use Rattle.routes.proofs.Invariant.GatherTurns.{TurnOn, get_turn, undo_turn, recycle_turn, scan_turn, reclaim_turn, unused_turn}
+use Rattle.routes.proofs.Invariant.LockTurns.{full_told_turn, done_told_turn}
 use Rattle.routes.proofs.Invariant.Steps.{Turn, lock_of}
 
 module _ {m : Mem} {g : Ghost} {trail : ℕ → List ℕ} {s : State} {t : ℕ} {c : Cpus} {p : ℕ} {es : List Event}
@@ -32,27 +32,27 @@ module _ {m : Mem} {g : Ghost} {trail : ℕ → List ℕ} {s : State} {t : ℕ} 
 
   -- A turn that goes on tells nothing.
   goes_on : (own : List ℕ) (next : UpdateNext) → TurnOn t c p s own next m.cpus m.blocks es n → Leads own next
-  goes_on own next k = turn-later (subst (λ a. Turn n t (set_cpu p (work_of_update next) own c) m.cpus m.blocks (seen_of p a es) p s) (sym k.untold) k.turn)
+  goes_on own next k = turn_later (subst (λ a. Turn n t (set_cpu p (work_of_update next) own c) m.cpus m.blocks (seen_of p a es) p s) (sym k.untold) k.turn)
 
   -- So does one of Build, Publish and Retire.
-  leads-on : (ph : Phase) → ChangeLeads t c p m.cpus m.cpus m.blocks es s j ph x n → Leads (update_words j ph (c.own p) x) (update_after m.cpus j ph (c.own p) x)
-  leads-on ph k = subst (λ a. Turn n (suc t) (set_cpu p (work_of_update (update_after m.cpus j ph (c.own p) x)) (update_words j ph (c.own p) x) c) m.cpus m.blocks (seen_of p a es) p s) (sym k.untold) k.turn
+  leads_on : (ph : Phase) → ChangeLeads t c p m.cpus m.cpus m.blocks es s j ph x n → Leads (update_words j ph (c.own p) x) (update_after m.cpus j ph (c.own p) x)
+  leads_on ph k = subst (λ a. Turn n (suc t) (set_cpu p (work_of_update (update_after m.cpus j ph (c.own p) x)) (update_words j ph (c.own p) x) c) m.cpus m.blocks (seen_of p a es) p s) (sym k.untold) k.turn
 
   -- Whatever the phase.
-  pub holder-turn : (ph : Phase) → holds_in ph ≡ true → c.work p ≡ Updating j ph → Did p (update_act p j ph (c.own p)) m x n →
+  pub holder_turn : (ph : Phase) → holds_in ph ≡ true → c.work p ≡ Updating j ph → Did p (update_act p j ph (c.own p)) m x n →
       Leads (update_words j ph (c.own p) x) (update_after m.cpus j ph (c.own p) x)
   unfolding holds_in
-  holder-turn Refuse h e d = absurd (false≢true h)
-  holder-turn AtLock h e d = absurd (false≢true h)
-  holder-turn (Check k) h e d = turn-later (check-turn j k x i r y e d)
-  holder-turn (Obtain Get) h e d = goes_on _ _ (get-turn i r y j x n e d)
-  holder-turn (Obtain Undo) h e d = goes_on _ _ (undo-turn i r y j x n e d)
-  holder-turn (Obtain Full) h e d = turn-later (full-told-turn i r y j x e d)
-  holder-turn (Recycle k) h e d = goes_on _ _ (recycle-turn i r y j refl k x n e d)
-  holder-turn (Scan k) h e d = goes_on _ _ (scan-turn i r y j k x n e d)
-  holder-turn (Build k) h e d = leads-on (Build k) (build-leads i r y j x n k e d)
-  holder-turn (Publish k) h e d = leads-on (Publish k) (publish-leads i r y j x n k e d)
-  holder-turn (Retire k) h e d = leads-on (Retire k) (retire-leads i r y j x n k e d)
-  holder-turn (Reclaim k) h e d = goes_on _ _ (reclaim-turn i r y j k x n e d)
-  holder-turn (Finish Unused) h e d = goes_on _ _ (unused-turn i r y j x n e d)
-  holder-turn (Finish Unlock) h e d = turn-later (done-told-turn i r y j x e d)
+  holder_turn Refuse h e d = absurd (false≢true h)
+  holder_turn AtLock h e d = absurd (false≢true h)
+  holder_turn (Check k) h e d = turn_later (check_turn j k x i r y e d)
+  holder_turn (Obtain Get) h e d = goes_on _ _ (get_turn i r y j x n e d)
+  holder_turn (Obtain Undo) h e d = goes_on _ _ (undo_turn i r y j x n e d)
+  holder_turn (Obtain Full) h e d = turn_later (full_told_turn i r y j x e d)
+  holder_turn (Recycle k) h e d = goes_on _ _ (recycle_turn i r y j refl k x n e d)
+  holder_turn (Scan k) h e d = goes_on _ _ (scan_turn i r y j k x n e d)
+  holder_turn (Build k) h e d = leads_on (Build k) (build_leads i r y j x n k e d)
+  holder_turn (Publish k) h e d = leads_on (Publish k) (publish_leads i r y j x n k e d)
+  holder_turn (Retire k) h e d = leads_on (Retire k) (retire_leads i r y j x n k e d)
+  holder_turn (Reclaim k) h e d = goes_on _ _ (reclaim_turn i r y j k x n e d)
+  holder_turn (Finish Unused) h e d = goes_on _ _ (unused_turn i r y j x n e d)
+  holder_turn (Finish Unlock) h e d = turn_later (done_told_turn i r y j x e d)

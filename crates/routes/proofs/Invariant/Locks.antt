@@ -19,14 +19,14 @@ use Rattle.routes.specs.Invariant.Holders.{Resting}
 use Rattle.routes.specs.Invariant.Checking.{Checked, CheckFacts}
 use Rattle.routes.specs.Invariant.Writers.{PhaseFacts, Writer, hall_of}
 use Rattle.routes.specs.Invariant.Inv.{Lock, Cpus, Inv, set_cpu}
-use Rattle.routes.proofs.Late.Fence.{swap-none}
-use Rattle.routes.proofs.Run.Leads.{no-leader, one-led}
-use Rattle.routes.proofs.Run.Steps.{now-own, now-other, turned-kind}
-use Rattle.routes.proofs.Invariant.Alike.{hidden-led, saying-older}
+use Rattle.routes.proofs.Late.Fence.{swap_none}
+use Rattle.routes.proofs.Run.Leads.{no_leader, one_led}
+use Rattle.routes.proofs.Run.Steps.{now_own, now_other, turned_kind}
+use Rattle.routes.proofs.Invariant.Alike.{hidden_led, saying_older}
 use Rattle.routes.proofs.Invariant.Kinds.{with_row}
-use Rattle.routes.proofs.Invariant.Local.{writer-rests, quiet-late}
-use Rattle.routes.proofs.Invariant.Steps.{Turn, turn_on, steps-inv}
-use Rattle.routes.proofs.Invariant.WriterWord.{writer-core, writer-leaves}
+use Rattle.routes.proofs.Invariant.Local.{writer_rests, quiet_late}
+use Rattle.routes.proofs.Invariant.Steps.{Turn, turn_on, steps_inv}
+use Rattle.routes.proofs.Invariant.WriterWord.{writer_core, writer_leaves}
 
 module _ {m : Mem} {k : Lock} {g : Ghost} {trail : ℕ → List ℕ} {s : State} {t : ℕ} {c : Cpus} (i : Inv m k g trail s t c) (free : k.held ≡ false) where
   -- Nobody holds the lock.
@@ -34,23 +34,23 @@ module _ {m : Mem} {k : Lock} {g : Ghost} {trail : ℕ → List ℕ} {s : State}
   nobody-holds q = i.holding q ∙ ap (λ z. z && eqb q k.who) free
 
   -- Nothing is left over.
-  pub free-resting : Resting g
-  free-resting = writer-rests (view k.who m) (hall_of m) g (c.own k.who) s.table (s.now' k.who) (c.work k.who) (nobody-holds k.who) i.writer
+  pub free_resting : Resting g
+  free_resting = writer_rests (view k.who m) (hall_of m) g (c.own k.who) s.table (s.now' k.who) (c.work k.who) (nobody-holds k.who) i.writer
 
   -- Nothing is late.
-  pub free-late : (q : ℕ) → m.late q ≡ []
-  free-late q = quiet-late q i (nobody-holds q)
+  pub free_late : (q : ℕ) → m.late q ≡ []
+  free_late q = quiet_late q i (nobody-holds q)
 
   module _ {p : ℕ} (j : Job) (e : c.work p ≡ Updating j AtLock) (small : p < m.cpus) where
     -- What p does.
-    does-lock : Does m.val (Updating j AtLock) (c.own p) (trail p) (s.now' p)
-    does-lock = subst (λ w. Does m.val w (c.own p) (trail p) (s.now' p)) e (i.readers p).does
+    does_lock : Does m.val (Updating j AtLock) (c.own p) (trail p) (s.now' p)
+    does_lock = subst (λ w. Does m.val w (c.own p) (trail p) (s.now' p)) e (i.readers p).does
 
     -- The swap finds it free.
-    pub swap-free : swapped p 0 0 0 (p + 1) m ≡ set_word 0 0 (p + 1) m
-    swap-free =
+    pub swap_free : swapped p 0 0 0 (p + 1) m ≡ set_word 0 0 (p + 1) m
+    swap_free =
         let z : eqb (m.val 0 0) 0 ≡ true = eq-eqb _ _ (i.core.writer ∙ ap (λ b. cond b (suc k.who) 0) free) in
-        swap-none p 0 0 0 (p + 1) m (free-late p) ∙ rw z
+        swap_none p 0 0 0 (p + 1) m (free_late p) ∙ rw z
 
     module _ {cpus blocks : ℕ} {es : List Event} (r : Run cpus blocks es s) (y : T (young (s.now' p))) where
       -- the state after it
@@ -61,11 +61,11 @@ module _ {m : Mem} {k : Lock} {g : Ghost} {trail : ℕ → List ℕ} {s : State}
       first : Checked (with_row still g) (c.own p) s.table (after.now' p) j 0
       unfolding Does Updates pieces wants
       first =
-          let u = does-lock.1 in
+          let u = does_lock.1 in
           record {
-            resting = record { has = record { row = refl; loose = free-resting.has.loose; fresh = free-resting.has.fresh }; whole = free-resting.whole };
+            resting = record { has = record { row = refl; loose = free_resting.has.loose; fresh = free_resting.has.fresh }; whole = free_resting.whole };
             ps = u.0;
-            awaits = subst (Awaits u.0) (sym (now-own p (older (must_wait cpus p (led p s)) (s.now' p)) s.table (led p s))) ((saying-older (must_wait cpus p (led p s)) (s.now' p)).awaits u.0 u.1);
+            awaits = subst (Awaits u.0) (sym (now_own p (older (must_wait cpus p (led p s)) (s.now' p)) s.table (led p s))) ((saying_older (must_wait cpus p (led p s)) (s.now' p)).awaits u.0 u.1);
             pending = u.2;
             here = u.2.some;
             passes = (s.table, refl);
@@ -76,24 +76,24 @@ module _ {m : Mem} {k : Lock} {g : Ghost} {trail : ℕ → List ℕ} {s : State}
           }
 
       -- The lock is got, and its update leads from here on.
-      pub lock-got : Turn (counted (swapped p 0 0 0 (p + 1) m)) t (set_cpu p (Updating j (Check (AtPiece 0))) (c.own p) c) cpus blocks (Turned p ∷ es) p s
+      pub lock_got : Turn (counted (swapped p 0 0 0 (p + 1) m)) t (set_cpu p (Updating j (Check (AtPiece 0))) (c.own p) c) cpus blocks (Turned p ∷ es) p s
       unfolding holds holds_in announced loaded passed passed_in Does Updates Writer PhaseFacts CheckFacts is_change
-      lock-got =
-          let u = does-lock.1 in
-          let none : leader cpus p s ≡ false = no-leader cpus p s (λ q ne. i.leads q ∙ ap (λ z. z && eqb q k.who) free) in
+      lock_got =
+          let u = does_lock.1 in
+          let none : leader cpus p s ≡ false = no_leader cpus p s (λ q ne. i.leads q ∙ ap (λ z. z && eqb q k.who) free) in
           let run : Run cpus blocks es (led p s) = leads p r u.1.2 (rw none tt) in
-          rw swap-free (turn_on (hidden-led p s) run y (steps-inv i (record {
-            core = writer-core i.core (free-late k.who) (p + 1) p true (omega arith);
-            leaves = λ q. writer-leaves i.core (free-late k.who) (p + 1) (trail q) q (i.readers q).safe;
-            nows = λ q ne. now-other p q _ s.table (led p s) ne;
-            leads = one-led p k.who s (λ q. i.leads q ∙ ap (λ z. z && eqb q k.who) free);
+          rw swap_free (turn_on (hidden_led p s) run y (steps_inv i (record {
+            core = writer_core i.core (free_late k.who) (p + 1) p true (omega arith);
+            leaves = λ q. writer_leaves i.core (free_late k.who) (p + 1) (trail q) q (i.readers q).safe;
+            nows = λ q ne. now_other p q _ s.table (led p s) ne;
+            leads = one_led p k.who s (λ q. i.leads q ∙ ap (λ z. z && eqb q k.who) free);
             others = λ q ne. nobody-holds q;
             mine = refl;
             cpus = refl;
             small = small;
             silent = rw e;
             unloaded = refl;
-            does = (does-lock.0, (turned-kind cpus p p (led p s)).change ∙ rw u.1.2);
+            does = (does_lock.0, (turned_kind cpus p p (led p s)).change ∙ rw u.1.2);
             room = i.room p small;
             writer = first;
             scanned = λ q b l. absurd (omega arith);

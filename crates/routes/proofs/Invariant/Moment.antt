@@ -24,14 +24,14 @@ use Rattle.routes.specs.Invariant.Readers.{Updates, Does, Reader}
 use Rattle.routes.specs.Invariant.Registers.{passed, passed_in}
 use Rattle.routes.specs.Invariant.Writers.{PhaseFacts, Writer, hall_of}
 use Rattle.routes.specs.Invariant.Inv.{Lock, Cpus, Inv}
-use Rattle.routes.proofs.Basics.Places.{set_val-hit, set_val-miss}
-use Rattle.routes.proofs.Late.Only.{row-landed, only-landed}
+use Rattle.routes.proofs.Basics.Places.{set_val_hit, set_val_miss}
+use Rattle.routes.proofs.Late.Only.{row-landed, only_landed}
 use Rattle.routes.proofs.Late.View.{view-landed}
-use Rattle.routes.proofs.Repr.Nodes.{repr-stays}
-use Rattle.routes.proofs.Run.Make.{settle-done}
-use Rattle.routes.proofs.Run.Steps.{now-own, now-other}
+use Rattle.routes.proofs.Repr.Nodes.{repr_stays}
+use Rattle.routes.proofs.Run.Make.{settle_done}
+use Rattle.routes.proofs.Run.Steps.{now_own, now_other}
 use Rattle.routes.proofs.Invariant.Apart.{once}
-use Rattle.routes.proofs.Invariant.Rely.{Leaves, reader-stays}
+use Rattle.routes.proofs.Invariant.Rely.{Leaves, reader_stays}
 use Rattle.routes.proofs.Invariant.Ripening.{RipeAt}
 
 module _ {m : Mem} {k : Lock} {g : Ghost} {trail : ℕ → List ℕ} {s : State} {t : ℕ} {c : Cpus} (i : Inv m k g trail s t c) (a : RipeAt g (c.own k.who) s.table (s.now' k.who) (c.work k.who)) where
@@ -65,64 +65,64 @@ module _ {m : Mem} {k : Lock} {g : Ghost} {trail : ℕ → List ℕ} {s : State}
   row = subst (λ z. RowOk z m k.who g (view k.who m 0 2)) a.ripens.row i.core.row
 
   -- The root alone is late.
-  pub root-late : m.late k.who ≡ store_of 0 1 (block_of new) ∷ []
-  root-late = row.late
+  pub root_late : m.late k.who ≡ store_of 0 1 (block_of new) ∷ []
+  root_late = row.late
 
   -- All other words stay.
   kept : (b w : ℕ) → ((b ≡ 0) × (w ≡ 1) → ⊥) → after.val b w ≡ m.val b w
-  kept b w ne = set_val-miss 0 1 (block_of new) m.val b w ne
+  kept b w ne = set_val_miss 0 1 (block_of new) m.val b w ne
 
   -- Words of the header but for ROOT.
-  header-kept : (w : ℕ) → (w ≡ 1 → ⊥) → after.val 0 w ≡ m.val 0 w
-  header-kept w ne = kept 0 w (λ e. ne e.1)
+  header_kept : (w : ℕ) → (w ≡ 1 → ⊥) → after.val 0 w ≡ m.val 0 w
+  header_kept w ne = kept 0 w (λ e. ne e.1)
 
   -- Nothing was loose.
-  none-loose : (b : ℕ) → cnt b g.loose ≡ 0
+  none_loose : (b : ℕ) → cnt b g.loose ≡ 0
   unfolding cnt
-  none-loose b = ap (cnt b) row.settled
+  none_loose b = ap (cnt b) row.settled
 
   -- The header is in neither tree.
-  trees-solid : (b : ℕ) → 1 ≤ count b new + (count b g.tree + limbo g b) → b ≡ 0 → ⊥
-  trees-solid b u z = let e = once i.core b in let d = row.balance b in let f = row.unspent b in grind (arith, tests)
+  trees_solid : (b : ℕ) → 1 ≤ count b new + (count b g.tree + limbo g b) → b ≡ 0 → ⊥
+  trees_solid b u z = let e = once i.core b in let d = row.balance b in let f = row.unspent b in grind (arith, tests)
 
   -- What is linked is not replaced.
-  pub gone-apart : (b : ℕ) → 1 ≤ cnt b g.chain → cnt b gone ≡ 0
-  gone-apart b u = omega (arith, once i.core b, row.balance b, row.unspent b)
+  pub gone_apart : (b : ℕ) → 1 ≤ cnt b g.chain → cnt b gone ≡ 0
+  gone_apart b u = omega (arith, once i.core b, row.balance b, row.unspent b)
 
   -- The view stays.
   seen : view k.who after ≡ view k.who m
-  seen = view-landed k.who (store_of 0 1 (block_of new)) [] m root-late
+  seen = view-landed k.who (store_of 0 1 (block_of new)) [] m root_late
 
   -- What holds of the memory.
-  moment-core : Core after k.who k.held published table' t
+  moment_core : Core after k.who k.held published table' t
   unfolding RowOk
-  moment-core = record {
+  moment_core = record {
     sizes = record { someone = i.core.sizes.someone; cpus = i.core.sizes.cpus; blocks = i.core.sizes.blocks };
-    others = only-landed k.who (store_of 0 1 (block_of new)) [] m i.core.others;
+    others = only_landed k.who (store_of 0 1 (block_of new)) [] m i.core.others;
     row = row-landed k.who (store_of 0 1 (block_of new)) [] m;
-    writer = header-kept 0 (λ e. omega (arith, e)) ∙ i.core.writer;
-    root = set_val-hit 0 1 (block_of new) m.val;
-    repr = repr-stays m.val after.val new (λ b w u l. kept b w (λ e. trees-solid b (omega arith) e.0)) row.repr;
+    writer = header_kept 0 (λ e. omega (arith, e)) ∙ i.core.writer;
+    root = set_val_hit 0 1 (block_of new) m.val;
+    repr = repr_stays m.val after.val new (λ b w u l. kept b w (λ e. trees_solid b (omega arith) e.0)) row.repr;
     good = row.good;
-    blocks = λ b. omega (arith, i.core.blocks b, row.balance b, row.unspent b, none-loose b);
+    blocks = λ b. omega (arith, i.core.blocks b, row.balance b, row.unspent b, none_loose b);
     inside = i.core.inside;
     sight = rw seen (record {
-      ahead = rw (header-kept 2 (λ e. omega (arith, e))) i.core.sight.ahead;
+      ahead = rw (header_kept 2 (λ e. omega (arith, e))) i.core.sight.ahead;
       early = i.core.sight.early;
       linked = i.core.sight.linked;
       ending = i.core.sight.ending;
-      stamped = λ b u. (let n = gone-apart b u in let o = i.core.sight.stamped b u in grind (arith, tests));
+      stamped = λ b u. (let n = gone_apart b u in let o = i.core.sight.stamped b u in grind (arith, tests));
       newest = λ b u. (let d = u in grind (arith, tests));
     });
   }
 
   -- No reader is disturbed: what it may still touch and is replaced now has the newest stamp.
-  moment-leaves : (q : ℕ) → Leaves m g after published (trail q) q
-  moment-leaves q = record {
-    epochs = rw (header-kept 2 (λ e. omega (arith, e))) (omega arith);
-    active = header-kept (16 + q) (λ e. omega (arith, e));
-    words = λ b w u l. kept b w (λ e. trees-solid b (omega (arith, (i.readers q).safe b u)) e.0);
-    safe = λ b u z. omega (arith, once i.core b, row.balance b, row.unspent b, none-loose b);
+  moment_leaves : (q : ℕ) → Leaves m g after published (trail q) q
+  moment_leaves q = record {
+    epochs = rw (header_kept 2 (λ e. omega (arith, e))) (omega arith);
+    active = header_kept (16 + q) (λ e. omega (arith, e));
+    words = λ b w u l. kept b w (λ e. trees_solid b (omega (arith, (i.readers q).safe b u)) e.0);
+    safe = λ b u z. omega (arith, once i.core b, row.balance b, row.unspent b, none_loose b);
     clear = λ b u z. elim (leb_tells 1 (cnt b gone)) [
       | inl y ↦ inr (rw y.0 i.core.sight.ahead)
       | inr y ↦ inl (omega (arith, y.1), rw y.0 refl)
@@ -130,58 +130,58 @@ module _ {m : Mem} {k : Lock} {g : Ghost} {trail : ℕ → List ℕ} {s : State}
   }
 
   -- What the holder has under way now.
-  now-is : settled.now' k.who ≡ Over (Change a.ripens.awaits.0) Done a.ripens.awaits.1
-  now-is = now-own k.who (Over (Change a.ripens.awaits.0) Done a.ripens.awaits.1) table' s
+  now_is : settled.now' k.who ≡ Over (Change a.ripens.awaits.0) Done a.ripens.awaits.1
+  now_is = now_own k.who (Over (Change a.ripens.awaits.0) Done a.ripens.awaits.1) table' s
 
   -- The holder still has a change under way.
-  does-on : (w : Work) → w ≡ Updating a.job (Publish FenceRoot) → Does after.val w (c.own k.who) (trail k.who) (s.now' k.who) → Does after.val w (c.own k.who) (trail k.who) (settled.now' k.who)
+  does_on : (w : Work) → w ≡ Updating a.job (Publish FenceRoot) → Does after.val w (c.own k.who) (trail k.who) (s.now' k.who) → Does after.val w (c.own k.who) (trail k.who) (settled.now' k.who)
   unfolding Does Updates is_change
-  does-on w e d =
+  does_on w e d =
       let d' : (trail k.who ≡ []) × (is_change (s.now' k.who) ≡ true) = rw e at d in
-      rw e (d'.0, ap is_change now-is)
+      rw e (d'.0, ap is_change now_is)
 
   -- Readers, the holder among them.
-  moment-reader : (q : ℕ) → Reader after published (trail q) q (c.work q) (c.own q) (settled.now' q)
-  moment-reader q = elim (eqb_tells q k.who) [
+  moment_reader : (q : ℕ) → Reader after published (trail q) q (c.work q) (c.own q) (settled.now' q)
+  moment_reader q = elim (eqb_tells q k.who) [
     | inl e ↦ subst (λ z. Reader after published (trail z) z (c.work z) (c.own z) (settled.now' z)) (sym e.1) mine
-    | inr e ↦ subst (λ z. Reader after published (trail q) q (c.work q) (c.own q) z) (sym (now-other k.who q _ table' s e.1)) (stays q)
+    | inr e ↦ subst (λ z. Reader after published (trail q) q (c.work q) (c.own q) z) (sym (now_other k.who q _ table' s e.1)) (stays q)
   ]
     where
       stays : (q : ℕ) → Reader after published (trail q) q (c.work q) (c.own q) (s.now' q)
-      stays q = reader-stays (moment-leaves q) (i.readers q)
+      stays q = reader_stays (moment_leaves q) (i.readers q)
 
       mine : Reader after published (trail k.who) k.who (c.work k.who) (c.own k.who) (settled.now' k.who)
-      mine = record { active = (stays k.who).active; old = (stays k.who).old; does = does-on (c.work k.who) a.is (stays k.who).does; safe = (stays k.who).safe; clear = (stays k.who).clear }
+      mine = record { active = (stays k.who).active; old = (stays k.who).old; does = does_on (c.work k.who) a.is (stays k.who).does; safe = (stays k.who).safe; clear = (stays k.who).clear }
 
   -- The facts of the holder.
-  moment-writer : Writer (view k.who after) (hall_of after) published (c.own k.who) table' (settled.now' k.who) (c.work k.who)
+  moment_writer : Writer (view k.who after) (hall_of after) published (c.own k.who) table' (settled.now' k.who) (c.work k.who)
   unfolding Writer PhaseFacts PublishFacts
-  moment-writer = rw (a.is, seen) (
+  moment_writer = rw (a.is, seen) (
     a.whole,
     a.spent,
     a.few,
     a.short,
     inr (record {
       has = record { row = refl; loose = refl; fresh = refl };
-      done = (a.ripens.awaits.0, a.ripens.awaits.1, now-is);
+      done = (a.ripens.awaits.0, a.ripens.awaits.1, now_is);
       stamps = λ b u. (let d = u in grind (arith, tests));
     }),
   )
 
   -- The invariant after the moment.
-  pub moment-inv : Inv after k published trail settled t c
+  pub moment_inv : Inv after k published trail settled t c
   unfolding passed passed_in
-  moment-inv = record {
-    core = moment-core;
-    readers = moment-reader;
+  moment_inv = record {
+    core = moment_core;
+    readers = moment_reader;
     leads = i.leads;
     holding = i.holding;
     outside = i.outside;
     room = i.room;
-    writer = moment-writer;
+    writer = moment_writer;
     scanned = λ q b u. absurd (let z : q < 0 = rw a.is at u in omega arith);
   }
 
   -- The change took effect.
-  pub moment-run : {cpus blocks : ℕ} {es : List Event} → Run cpus blocks es s → Run cpus blocks es settled
-  moment-run r = settle-done r k.who a.ripens.awaits.0 a.ripens.ps a.ripens.awaits.1 table' a.ripens.awaits.2 a.ripens.sure.makes
+  pub moment_run : {cpus blocks : ℕ} {es : List Event} → Run cpus blocks es s → Run cpus blocks es settled
+  moment_run r = settle_done r k.who a.ripens.awaits.0 a.ripens.ps a.ripens.awaits.1 table' a.ripens.awaits.2 a.ripens.sure.makes

@@ -11,7 +11,7 @@ use Rattle.routes.specs.Invariant.Building.{Equipped}
 use Rattle.routes.specs.Invariant.Ghosts.{Ghost, Row}
 use Rattle.routes.specs.Invariant.Readers.{Pending}
 use Rattle.routes.proofs.Counts.Segments.{seg_same}
-use Rattle.routes.proofs.Invariant.Staging.{need-few}
+use Rattle.routes.proofs.Invariant.Staging.{need_few}
 
 -- the pieces, the fresh blocks and so many replaced ones are the same
 abbrev pub SameBut : Own → Own → ℕ → Type 0
@@ -25,8 +25,8 @@ piece-stays own own' k l s =
     rw (a, b, c, d)
 
 -- All pieces do.
-pub pending-stays : (o o' : List ℕ) (size : ℕ) (ps : List Piece) → ((i : ℕ) → i < 32 → words_of o' i ≡ words_of o i) → Pending o size ps → Pending o' size ps
-pending-stays o o' size ps s p = record {
+pub pending_stays : (o o' : List ℕ) (size : ℕ) (ps : List Piece) → ((i : ℕ) → i < 32 → words_of o' i ≡ words_of o i) → Pending o size ps → Pending o' size ps
+pending_stays o o' size ps s p = record {
   length' = p.length';
   some = p.some;
   few = p.few;
@@ -35,15 +35,15 @@ pending-stays o o' size ps s p = record {
 }
 
 -- An update stays equipped.
-pub equipped-stays : (g : Ghost) (o o' : List ℕ) (rs : List Route) (n : Now) (j : Job) (row : Row) (ps : List Piece) (qs : List Route) (retired : ℕ) →
+pub equipped_stays : (g : Ghost) (o o' : List ℕ) (rs : List Route) (n : Now) (j : Job) (row : Row) (ps : List Piece) (qs : List Route) (retired : ℕ) →
     SameBut (words_of o) (words_of o') retired → Equipped g o rs n j row ps qs → Equipped g o' rs n j row ps qs
-equipped-stays g o o' rs n j row ps qs retired s e =
-    let few = need-few g o rs n j row ps qs e in
+equipped_stays g o o' rs n j row ps qs retired s e =
+    let few = need_few g o rs n j row ps qs e in
     let same : fresh_blocks (words_of o') j.got ≡ fresh_blocks (words_of o) j.got = seg_same (words_of o') (words_of o) (fresh_at 0) (fresh_at 0) j.got (λ i l. s (fresh_at 0 + i) (inr (omega arith, omega (arith, e.all)))) in
     record {
       whole = e.whole;
       awaits = e.awaits;
       all = e.all;
       has = record { row = e.has.row; loose = e.has.loose; fresh = e.has.fresh ∙ sym same };
-      sure = record { makes = e.sure.makes; need = e.sure.need; pending = pending-stays o o' j.size ps (λ i l. s i (inl l)) e.sure.pending };
+      sure = record { makes = e.sure.makes; need = e.sure.need; pending = pending_stays o o' j.size ps (λ i l. s i (inl l)) e.sure.pending };
     }

@@ -22,15 +22,15 @@ module _ (own u : List ℕ) (n p k : ℕ) (l : length own ≡ 4096 * n) (h : p <
   put = put_mid (p * 4096) k own u
 
   -- That part is what was put.
-  pub part-own : part_of p put ≡ u
+  pub part_own : part_of p put ≡ u
   unfolding part_of
-  part-own = let q : p * 4096 + 4096 - p * 4096 ≡ 4096 = omega arith in
+  part_own = let q : p * 4096 + 4096 - p * 4096 ≡ 4096 = omega arith in
       ap (λ y. take y (drop (p * 4096) put)) (sym q) ∙ between-put_mid (p * 4096) k own u (p * 4096 + 4096) (omega arith) (omega arith)
 
   -- All others are as they were.
-  pub part-other : (q : ℕ) → (q ≡ p → ⊥) → part_of q put ≡ part_of q own
+  pub part_other : (q : ℕ) → (q ≡ p → ⊥) → part_of q put ≡ part_of q own
   unfolding part_of
-  part-other q ne = elim (cases_lt q p) [
+  part_other q ne = elim (cases_lt q p) [
     | inl b ↦ sym (drop-take (q * 4096) 4096 put) ∙ (ap (drop (q * 4096)) (take-put_mid_below (p * 4096) k own u (q * 4096 + 4096) (omega arith) (omega arith)) ∙ drop-take (q * 4096) 4096 own)
     | inr b ↦ ap (take 4096) (drop-put_mid (p * 4096) k own u (q * 4096) (let d : p < q = above b in omega arith) (omega arith) (omega arith))
   ]
@@ -43,8 +43,8 @@ module _ (own u : List ℕ) (n p k : ℕ) (l : length own ≡ 4096 * n) (h : p <
   put-length = simp (length-append, length-take, length-drop) (omega arith)
 
   -- Registers and own words of p are new, and those of all others as they were.
-  pub cpus-put : (cs : List Cpu) (d : Cpu) → p < length cs → cpus_of (set cs p d) put ≡ set_cpu p d.work u (cpus_of cs own)
-  cpus-put cs d small = λ i. record { work = works i; own = owns i }
+  pub cpus_put : (cs : List Cpu) (d : Cpu) → p < length cs → cpus_of (set cs p d) put ≡ set_cpu p d.work u (cpus_of cs own)
+  cpus_put cs d small = λ i. record { work = works i; own = owns i }
     where
       works : (λ q. (get_or (set cs p d) q idle_cpu).work) ≡ set_at p d.work (λ q. (get_or cs q idle_cpu).work)
       works = fun_ext (λ q. elim (eqb_tells q p) [
@@ -54,6 +54,6 @@ module _ (own u : List ℕ) (n p k : ℕ) (l : length own ≡ 4096 * n) (h : p <
 
       owns : (λ q. part_of q put) ≡ set_at p u (λ q. part_of q own)
       owns = fun_ext (λ q. elim (eqb_tells q p) [
-        | inl e ↦ rw e.0 (ap (λ y. part_of y put) e.1 ∙ part-own)
-        | inr e ↦ rw e.0 (part-other q e.1)
+        | inl e ↦ rw e.0 (ap (λ y. part_of y put) e.1 ∙ part_own)
+        | inr e ↦ rw e.0 (part_other q e.1)
       ])

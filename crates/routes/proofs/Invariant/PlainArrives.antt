@@ -5,24 +5,24 @@ use Rattle.routes.specs.Memory.{Mem, Store, Arrives, rest, one, oldest}
 use Rattle.routes.specs.Routes.{State}
 use Rattle.routes.specs.Invariant.Ghosts.{Ghost}
 use Rattle.routes.specs.Invariant.Inv.{Lock, Cpus, Inv}
-use Rattle.routes.proofs.Late.Arriving.{oldest-none}
-use Rattle.routes.proofs.Invariant.Calm.{plain, calm-inv}
+use Rattle.routes.proofs.Late.Arriving.{oldest_none}
+use Rattle.routes.proofs.Invariant.Calm.{plain, calm_inv}
 
 module _ {k : Lock} {g : Ghost} {trail : ℕ → List ℕ} {s : State} {t : ℕ} {c : Cpus} (p : plain g.row ≡ true) where
   -- The oldest store of the one who may have any.
-  own-arrives : {m : Mem} (row : List Store) → m.late k.who ≡ row → Inv m k g trail s t c → Inv (oldest k.who row m) k g trail s t c
+  own_arrives : {m : Mem} (row : List Store) → m.late k.who ≡ row → Inv m k g trail s t c → Inv (oldest k.who row m) k g trail s t c
   unfolding oldest
-  own-arrives [] e i = i
-  own-arrives (x ∷ xs) e i = calm-inv x xs i p e
+  own_arrives [] e i = i
+  own_arrives (x ∷ xs) e i = calm_inv x xs i p e
 
   -- The oldest store of anybody.
-  one-arrives : {m : Mem} (q : ℕ) → Inv m k g trail s t c → Inv (oldest q (m.late q) m) k g trail s t c
-  one-arrives {m} q i = elim (eqb_tells q k.who) [
-    | inl e ↦ rw e.1 (own-arrives (m.late k.who) refl i)
-    | inr e ↦ rw (oldest-none q m (i.core.others q e.1)) i
+  one_arrives : {m : Mem} (q : ℕ) → Inv m k g trail s t c → Inv (oldest q (m.late q) m) k g trail s t c
+  one_arrives {m} q i = elim (eqb_tells q k.who) [
+    | inl e ↦ rw e.1 (own_arrives (m.late k.who) refl i)
+    | inr e ↦ rw (oldest_none q m (i.core.others q e.1)) i
   ]
 
 -- Whatever arrives.
-pub plain-arrives : {m n : Mem} {k : Lock} {g : Ghost} {trail : ℕ → List ℕ} {s : State} {t : ℕ} {c : Cpus} → Arrives m n → plain g.row ≡ true → Inv m k g trail s t c → Inv n k g trail s t c
-plain-arrives (rest m) p i = i
-plain-arrives (one q a) p i = plain-arrives a p (one-arrives p q i)
+pub plain_arrives : {m n : Mem} {k : Lock} {g : Ghost} {trail : ℕ → List ℕ} {s : State} {t : ℕ} {c : Cpus} → Arrives m n → plain g.row ≡ true → Inv m k g trail s t c → Inv n k g trail s t c
+plain_arrives (rest m) p i = i
+plain_arrives (one q a) p i = plain_arrives a p (one_arrives p q i)

@@ -9,14 +9,14 @@ use Rattle.routes.specs.Machine.Acts.{MayDo, PhaseReady}
 use Rattle.routes.specs.Machine.Publishes.{publish_act}
 use Rattle.routes.specs.Invariant.Ghosts.{Ghost}
 use Rattle.routes.specs.Invariant.Memories.{Core}
-use Rattle.routes.proofs.Invariant.Touching.{MayAsk, header-touch}
+use Rattle.routes.proofs.Invariant.Touching.{MayAsk, header_touch}
 
 -- Each is a fence, or a store to the header.
-publish-may : (m : Mem) (h : ℕ) (locked : Bool) (g : Ghost) (rs : List Route) (t : ℕ) → Core m h locked g rs t → MayAsk m h → (j : Job) (s : Publish) → MayDo m h (publish_act j s)
-publish-may m h locked g rs t c a j FenceNodes = (a.once, a.turn, a.inside)
-publish-may m h locked g rs t c a j SetRoot = header-touch c a 1 (omega arith)
-publish-may m h locked g rs t c a j FenceRoot = (a.once, a.turn, a.inside)
+publish_may : (m : Mem) (h : ℕ) (locked : Bool) (g : Ghost) (rs : List Route) (t : ℕ) → Core m h locked g rs t → MayAsk m h → (j : Job) (s : Publish) → MayDo m h (publish_act j s)
+publish_may m h locked g rs t c a j FenceNodes = (a.once, a.turn, a.inside)
+publish_may m h locked g rs t c a j SetRoot = header_touch c a 1 (omega arith)
+publish_may m h locked g rs t c a j FenceRoot = (a.once, a.turn, a.inside)
 
 -- And the own words are 4,096.
-pub publish-ready : (m : Mem) (h : ℕ) (locked : Bool) (g : Ghost) (rs : List Route) (t : ℕ) → Core m h locked g rs t → MayAsk m h → (j : Job) (s : Publish) (o : List ℕ) → length o ≡ 4096 → PhaseReady m h (publish_act j s) (Unit {0}) o
-publish-ready m h locked g rs t c a j s o r = record { ok = tt; room = r; may = publish-may m h locked g rs t c a j s }
+pub publish_ready : (m : Mem) (h : ℕ) (locked : Bool) (g : Ghost) (rs : List Route) (t : ℕ) → Core m h locked g rs t → MayAsk m h → (j : Job) (s : Publish) (o : List ℕ) → length o ≡ 4096 → PhaseReady m h (publish_act j s) (Unit {0}) o
+publish_ready m h locked g rs t c a j s o r = record { ok = tt; room = r; may = publish_may m h locked g rs t c a j s }

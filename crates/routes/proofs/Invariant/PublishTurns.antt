@@ -20,17 +20,17 @@ use Rattle.routes.specs.Invariant.Memories.{RowOk}
 use Rattle.routes.specs.Invariant.Registers.{holds_in, passed_in}
 use Rattle.routes.specs.Invariant.Retiring.{RetireFacts}
 use Rattle.routes.specs.Invariant.Writers.{Hall, PhaseFacts, hall_of}
-use Rattle.routes.proofs.Late.Fence.{fence-empties}
+use Rattle.routes.proofs.Late.Fence.{fence_empties}
 use Rattle.routes.proofs.Invariant.Alike.{alike_same}
 use Rattle.routes.proofs.Invariant.CalmRows.{row_of}
-use Rattle.routes.proofs.Invariant.Fencing.{fence-turn, turn-later}
-use Rattle.routes.proofs.Invariant.Holding.{holder-facts, holder-room, load-turn}
-use Rattle.routes.proofs.Invariant.Rowing.{rowed-turn}
+use Rattle.routes.proofs.Invariant.Fencing.{fence_turn, turn_later}
+use Rattle.routes.proofs.Invariant.Holding.{holder_facts, holder_room, load_turn}
+use Rattle.routes.proofs.Invariant.Rowing.{rowed_turn}
 use Rattle.routes.proofs.Invariant.Sights.{rowed}
-use Rattle.routes.proofs.Invariant.Staging.{need-few}
+use Rattle.routes.proofs.Invariant.Staging.{need_few}
 use Rattle.routes.proofs.Invariant.Steps.{lock_of, Turn}
-use Rattle.routes.proofs.Invariant.StoreKinds.{root-store}
-use Rattle.routes.proofs.Invariant.Storing.{store-turn}
+use Rattle.routes.proofs.Invariant.StoreKinds.{root_store}
+use Rattle.routes.proofs.Invariant.Storing.{store_turn}
 use Rattle.routes.proofs.Invariant.Taking.{Takes}
 
 module _ (v : ℕ → ℕ → ℕ) (hall : Hall) (g : Ghost) (o : List ℕ) (rs : List Route) (n : Now) (j : Job) where
@@ -48,21 +48,21 @@ module _ (v : ℕ → ℕ → ℕ) (hall : Hall) (g : Ghost) (o : List ℕ) (rs 
   }
 
   -- The root is stored.
-  root-stored : (v' : ℕ → ℕ → ℕ) (f : Published v g o rs n j still) → PhaseFacts v' hall (rowed (ripe f.W (replaced_blocks o j) (rest_blocks o j) f.qs) g) o rs n j (InPublish FenceRoot)
+  root_stored : (v' : ℕ → ℕ → ℕ) (f : Published v g o rs n j still) → PhaseFacts v' hall (rowed (ripe f.W (replaced_blocks o j) (rest_blocks o j) f.qs) g) o rs n j (InPublish FenceRoot)
   unfolding PhaseFacts PublishFacts
-  root-stored v' f =
+  root_stored v' f =
       let e = f.equipped in (
         e.whole,
         omega (arith, f.spent, e.all),
-        omega (arith, need-few g o rs n j still f.ps f.qs e, e.all),
+        omega (arith, need_few g o rs n j still f.ps f.qs e, e.all),
         f.few,
         inl (record { ps = f.ps; qs = f.qs; W = f.W; row = refl; fresh = e.has.fresh; awaits = e.awaits; sure = e.sure }),
       )
 
   -- It has arrived: what it replaced is to be retired.
-  root-landed : PublishFacts v g o rs n j FenceRoot → Landed v g o n j → PhaseFacts v hall g o rs n j (InRetire Epoch)
+  root_landed : PublishFacts v g o rs n j FenceRoot → Landed v g o n j → PhaseFacts v hall g o rs n j (InRetire Epoch)
   unfolding PhaseFacts PublishFacts RetireFacts
-  root-landed f l = (record { has = l.has; done = l.done; spent = f.1; few = f.2; short = f.3 }, f.0, l.stamps)
+  root_landed f l = (record { has = l.has; done = l.done; spent = f.1; few = f.2; short = f.3 }, f.0, l.stamps)
 
 module _ {m : Mem} {g : Ghost} {trail : ℕ → List ℕ} {s : State} {t : ℕ} {c : Cpus} {p cpus blocks : ℕ} {es : List Event}
     (i : Inv m (lock_of p true) g trail s t c) (r : Run cpus blocks es s) (y : T (young (s.now' p))) (j : Job) where
@@ -72,48 +72,48 @@ module _ {m : Mem} {g : Ghost} {trail : ℕ → List ℕ} {s : State} {t : ℕ} 
   -- The facts of a state of Publish.
   facts : (st : Publish) → c.work p ≡ Updating j (InPublish st) → PublishFacts (view p m) g own s.table (s.now' p) j st
   unfolding PhaseFacts
-  facts st e = holder-facts i j (InPublish st) e
+  facts st e = holder_facts i j (InPublish st) e
 
   -- At the first fence.
   nodes-landed : c.work p ≡ Updating j (InPublish FenceNodes) → m.late p ≡ [] → Turn (counted m) t (set_cpu p (Updating j (InPublish SetRoot)) own c) cpus blocks (Turned p ∷ es) p s
   unfolding PublishFacts holds_in passed_in RowOk
-  nodes-landed e none = rowed-turn still j (InPublish SetRoot) own i r y none refl refl (holder-room i) (nodes-fenced (view p m) (hall_of m) g own s.table (s.now' p) j (facts FenceNodes e))
+  nodes-landed e none = rowed_turn still j (InPublish SetRoot) own i r y none refl refl (holder_room i) (nodes-fenced (view p m) (hall_of m) g own s.table (s.now' p) j (facts FenceNodes e))
 
   -- The store of the root.
-  set-root : c.work p ≡ Updating j (InPublish SetRoot) → Turn (counted (stored p 0 1 j.root m)) t (set_cpu p (Updating j (InPublish FenceRoot)) own c) cpus blocks (Turned p ∷ es) p s
+  set_root : c.work p ≡ Updating j (InPublish SetRoot) → Turn (counted (stored p 0 1 j.root m)) t (set_cpu p (Updating j (InPublish FenceRoot)) own c) cpus blocks (Turned p ∷ es) p s
   unfolding PublishFacts holds_in passed_in
-  set-root e =
+  set_root e =
       let f = facts SetRoot e in
-      store-turn j (InPublish FenceRoot) own i (alike_same p s) r y (root-store m p true g s.table t i.core own (s.now' p) j f) refl (holder-room i)
-      (root-stored (view p m) (hall_of m) g own s.table (s.now' p) j (set_val 0 1 j.root (view p m)) f) (λ q b l. absurd (omega arith))
+      store_turn j (InPublish FenceRoot) own i (alike_same p s) r y (root_store m p true g s.table t i.core own (s.now' p) j f) refl (holder_room i)
+      (root_stored (view p m) (hall_of m) g own s.table (s.now' p) j (set_val 0 1 j.root (view p m)) f) (λ q b l. absurd (omega arith))
 
   -- At the second fence.
-  root-there : c.work p ≡ Updating j (InPublish FenceRoot) → m.late p ≡ [] → Turn (counted m) t (set_cpu p (Updating j (InRetire Epoch)) own c) cpus blocks (Turned p ∷ es) p s
+  root_there : c.work p ≡ Updating j (InPublish FenceRoot) → m.late p ≡ [] → Turn (counted m) t (set_cpu p (Updating j (InRetire Epoch)) own c) cpus blocks (Turned p ∷ es) p s
   unfolding PublishFacts holds_in passed_in RowOk
-  root-there e none = elim (facts FenceRoot e).4 [
+  root_there e none = elim (facts FenceRoot e).4 [
     | inl k ↦ absurd (let w = row_of (ripe k.W (replaced_blocks own j) (rest_blocks own j) k.qs) m p g (view p m 0 2) k.row i.core.row in
         let z : ◌≡◌ {A = ℕ} 0 1 = cc (none, w.late) in omega arith)
-    | inr k ↦ load-turn j (InRetire Epoch) own i (alike_same p s) r y refl (holder-room i) (root-landed (view p m) (hall_of m) g own s.table (s.now' p) j (facts FenceRoot e) k) (λ q b l. absurd (omega arith))
+    | inr k ↦ load_turn j (InRetire Epoch) own i (alike_same p s) r y refl (holder_room i) (root_landed (view p m) (hall_of m) g own s.table (s.now' p) j (facts FenceRoot e) k) (λ q b l. absurd (omega arith))
   ]
 
 module _ {m : Mem} {g : Ghost} {trail : ℕ → List ℕ} {s : State} {t : ℕ} {c : Cpus} {p cpus blocks : ℕ} {es : List Event}
     (i : Inv m (lock_of p true) g trail s t c) (r : Run cpus blocks es s) (y : T (young (s.now' p))) (j : Job) where
   -- The turn, whatever the state.
-  pub publish-turn : (st : Publish) → c.work p ≡ Updating j (InPublish st) → (x : ℕ) (n : Mem) → Did p (publish_act j st) m x n → Takes (suc t) c p s (c.own p) (On j (publish_after st x)) cpus blocks es n
-  publish-turn FenceNodes e x n d = record {
+  pub publish_turn : (st : Publish) → c.work p ≡ Updating j (InPublish st) → (x : ℕ) (n : Mem) → Did p (publish_act j st) m x n → Takes (suc t) c p s (c.own p) (On j (publish_after st x)) cpus blocks es n
+  publish_turn FenceNodes e x n d = record {
     memory = counted (fenced p m);
     arrives = d.1;
     job = j;
     phase = InPublish SetRoot;
     is = refl;
-    turn = fence-turn i r y (λ g' s' i' r' y'. turn-later (nodes-landed i' r' y' j e (fence-empties p m)));
+    turn = fence_turn i r y (λ g' s' i' r' y'. turn_later (nodes-landed i' r' y' j e (fence_empties p m)));
   }
-  publish-turn SetRoot e x n d = record { memory = counted (stored p 0 1 j.root m); arrives = d.1; job = j; phase = InPublish FenceRoot; is = refl; turn = turn-later (set-root i r y j e) }
-  publish-turn FenceRoot e x n d = record {
+  publish_turn SetRoot e x n d = record { memory = counted (stored p 0 1 j.root m); arrives = d.1; job = j; phase = InPublish FenceRoot; is = refl; turn = turn_later (set_root i r y j e) }
+  publish_turn FenceRoot e x n d = record {
     memory = counted (fenced p m);
     arrives = d.1;
     job = j;
     phase = InRetire Epoch;
     is = refl;
-    turn = fence-turn i r y (λ g' s' i' r' y'. turn-later (root-there i' r' y' j e (fence-empties p m)));
+    turn = fence_turn i r y (λ g' s' i' r' y'. turn_later (root_there i' r' y' j e (fence_empties p m)));
   }

@@ -9,7 +9,7 @@ use Rattle.routes.specs.Counts.Counts.{cnt}
 use Rattle.routes.specs.Tree.Trees.{count}
 use Rattle.routes.specs.Invariant.Ghosts.{Ghost, limbo}
 use Rattle.routes.specs.Invariant.Readers.{LooksUp, Does, Reader}
-use Rattle.routes.proofs.Repr.Trails.{follow-stays}
+use Rattle.routes.proofs.Repr.Trails.{follow_stays}
 
 -- what others may do to q: EPOCH is not smaller, its announcement and the slots of its trail stay, and what is newly retired of its trail is stamped not before EPOCH
 pub record Leaves (m : Mem) (g : Ghost) (m' : Mem) (g' : Ghost) (trail : List ℕ) (q : ℕ) : Type 0 where
@@ -26,14 +26,14 @@ does_stays u v Idle o trail n same d = d
 does_stays u v (Looking (Epoch a)) o trail n same d = d
 does_stays u v (Looking (Announce a e)) o trail n same d = d
 does_stays u v (Looking (Root a e)) o trail n same d = d
-does_stays u v (Looking (Node a e l b best)) o trail n same d = (d.0, d.1, follow-stays u v a l b best trail d.0 same d.2, d.3)
+does_stays u v (Looking (Node a e l b best)) o trail n same d = (d.0, d.1, follow_stays u v a l b best trail d.0 same d.2, d.3)
 does_stays u v (Looking (Leave e best)) o trail n same d = d
 does_stays u v (Updating j s) o trail n same d = d
 
 -- A reader's facts stand what others may do.
-pub reader-stays : {m : Mem} {g : Ghost} {m' : Mem} {g' : Ghost} {trail : List ℕ} {q : ℕ} {work : Work} {o : List ℕ} {n : Now} →
+pub reader_stays : {m : Mem} {g : Ghost} {m' : Mem} {g' : Ghost} {trail : List ℕ} {q : ℕ} {work : Work} {o : List ℕ} {n : Now} →
     Leaves m g m' g' trail q → Reader m g trail q work o n → Reader m' g' trail q work o n
-reader-stays {m = m} {m' = m'} {trail = trail} {work = work} {o = o} {n = n} l r = record {
+reader_stays {m = m} {m' = m'} {trail = trail} {work = work} {o = o} {n = n} l r = record {
   active = l.active ∙ r.active;
   old = omega (arith, l.epochs, r.old);
   does = does_stays m.val m'.val work o trail n l.words r.does;
@@ -45,8 +45,8 @@ reader-stays {m = m} {m' = m'} {trail = trail} {work = work} {o = o} {n = n} l r
 }
 
 -- Where memory and ghosts are the same, nothing is done to a reader.
-pub leaves-same : {m m' : Mem} (g : Ghost) (trail : List ℕ) (q : ℕ) → m'.val ≡ m.val → Leaves m g m' g trail q
-leaves-same {m} {m'} g trail q same = record {
+pub leaves_same : {m m' : Mem} (g : Ghost) (trail : List ℕ) (q : ℕ) → m'.val ≡ m.val → Leaves m g m' g trail q
+leaves_same {m} {m'} g trail q same = record {
   epochs = rw same (omega arith);
   active = rw same;
   words = λ b w i l. rw same;

@@ -53,106 +53,106 @@ module _ (v : ℕ → ℕ → ℕ) (hall : Hall) (g : Ghost) (o : List ℕ) (rs 
   rest_plain r = ap plain r.has.row
 
   -- In Check.
-  check-plain : (s : Check) → CheckFacts g o rs n j s → Plain g
+  check_plain : (s : Check) → CheckFacts g o rs n j s → Plain g
   unfolding CheckFacts
-  check-plain (AtPiece k) f = rest_plain f.resting
-  check-plain (CheckRoot k) f = rest_plain f.0.resting
-  check-plain (Slot k d b) f = rest_plain f.0.resting
-  check-plain (AtRoute k b) f = rest_plain f.0.resting
-  check-plain (Reject why) f = rest_plain f.0
+  check_plain (AtPiece k) f = rest_plain f.resting
+  check_plain (CheckRoot k) f = rest_plain f.0.resting
+  check_plain (Slot k d b) f = rest_plain f.0.resting
+  check_plain (AtRoute k b) f = rest_plain f.0.resting
+  check_plain (Reject why) f = rest_plain f.0
 
   -- Where blocks are got.
-  gathers-plain : Gathers g o rs n j → Plain g
+  gathers_plain : Gathers g o rs n j → Plain g
   unfolding plain
-  gathers-plain r = ap plain r.gathered.has.row
+  gathers_plain r = ap plain r.gathered.has.row
 
   -- In Obtain.
-  obtain-plain : (s : Obtain) → ObtainFacts g o rs n j s → Plain g
+  obtain_plain : (s : Obtain) → ObtainFacts g o rs n j s → Plain g
   unfolding ObtainFacts plain
-  obtain-plain Get f = gathers-plain f
-  obtain-plain Undo f = ap plain f.0.has.row
-  obtain-plain Full f = ap plain f.0.has.row
+  obtain_plain Get f = gathers_plain f
+  obtain_plain Undo f = ap plain f.0.has.row
+  obtain_plain Full f = ap plain f.0.has.row
 
   -- In Recycle.
-  recycle-plain : (s : Recycle) → RecycleFacts v hall.blocks g o rs n j s → Plain g
+  recycle_plain : (s : Recycle) → RecycleFacts v hall.blocks g o rs n j s → Plain g
   unfolding RecycleFacts plain
-  recycle-plain OldHead f = gathers-plain f.0
-  recycle-plain (OldAt b) f = gathers-plain f.0
-  recycle-plain (OldNext b grace) f = gathers-plain f.0
-  recycle-plain (OldSetHead b next grace) f = gathers-plain f.0
-  recycle-plain OldSetTail f = ap plain f.0.has.row
+  recycle_plain OldHead f = gathers_plain f.0
+  recycle_plain (OldAt b) f = gathers_plain f.0
+  recycle_plain (OldNext b grace) f = gathers_plain f.0
+  recycle_plain (OldSetHead b next grace) f = gathers_plain f.0
+  recycle_plain OldSetTail f = ap plain f.0.has.row
 
   -- Where blocks are given back.
-  reclaims-plain : Reclaims g o n j → Plain g
+  reclaims_plain : Reclaims g o n j → Plain g
   unfolding plain
-  reclaims-plain r = ap plain r.retires.has.row
+  reclaims_plain r = ap plain r.retires.has.row
 
   -- In Scan.
-  scan-plain : (s : Scan) → ScanFacts hall g o rs n j s → Plain g
+  scan_plain : (s : Scan) → ScanFacts hall g o rs n j s → Plain g
   unfolding ScanFacts
-  scan-plain (ForNode q b stamp) f = gathers-plain f.gathers
-  scan-plain (ForLimit q limit) f = reclaims-plain f.0
+  scan_plain (ForNode q b stamp) f = gathers_plain f.gathers
+  scan_plain (ForLimit q limit) f = reclaims_plain f.0
 
   -- In Build.
-  build-plain : (s : Build) → BuildFacts v g o rs n j s → Plain g
+  build_plain : (s : Build) → BuildFacts v g o rs n j s → Plain g
   unfolding BuildFacts plain
-  build-plain Root f = ap plain f.2.has.row
-  build-plain (Read k d i b) f = ap plain f.1.equipped.has.row
-  build-plain (Edit k have) f = ap plain f.1.equipped.has.row
-  build-plain (ToWrite k first d i) f = ap plain f.equipped.has.row
+  build_plain Root f = ap plain f.2.has.row
+  build_plain (Read k d i b) f = ap plain f.1.equipped.has.row
+  build_plain (Edit k have) f = ap plain f.1.equipped.has.row
+  build_plain (ToWrite k first d i) f = ap plain f.equipped.has.row
 
   -- In Retire.
-  retire-plain : (s : Retire) → RetireFacts v g o n j s → Plain g
+  retire_plain : (s : Retire) → RetireFacts v g o n j s → Plain g
   unfolding RetireFacts plain
-  retire-plain Epoch f = ap plain f.0.has.row
-  retire-plain (SetEpoch e) f = ap plain f.0.has.row
-  retire-plain (SetAt i e) f = ap plain f.retires.has.row
-  retire-plain (SetNext i e) f = ap plain f.0.retires.has.row
-  retire-plain Tail f = ap plain f.retires.has.row
-  retire-plain ToHead f = ap plain f.0.retires.has.row
-  retire-plain (Link t) f = ap plain f.0.retires.has.row
-  retire-plain ToTail f = ap plain f.0.has.row
-  retire-plain Fence f = ap plain f.0.has.row
+  retire_plain Epoch f = ap plain f.0.has.row
+  retire_plain (SetEpoch e) f = ap plain f.0.has.row
+  retire_plain (SetAt i e) f = ap plain f.retires.has.row
+  retire_plain (SetNext i e) f = ap plain f.0.retires.has.row
+  retire_plain Tail f = ap plain f.retires.has.row
+  retire_plain ToHead f = ap plain f.0.retires.has.row
+  retire_plain (Link t) f = ap plain f.0.retires.has.row
+  retire_plain ToTail f = ap plain f.0.has.row
+  retire_plain Fence f = ap plain f.0.has.row
 
   -- In Reclaim.
-  reclaim-plain : (s : Reclaim) → ReclaimFacts v g o n j s → Plain g
+  reclaim_plain : (s : Reclaim) → ReclaimFacts v g o n j s → Plain g
   unfolding ReclaimFacts plain
-  reclaim-plain (Head grace left) f = reclaims-plain f
-  reclaim-plain (RetiredAt grace left b) f = reclaims-plain f.0
-  reclaim-plain (Next grace left b) f = reclaims-plain f.0
-  reclaim-plain (SetHead grace left b next) f = reclaims-plain f.0
-  reclaim-plain (SetTail grace left b) f = ap plain f.0.has.row
-  reclaim-plain (Release grace left b) f = ap plain f.0.has.row
+  reclaim_plain (Head grace left) f = reclaims_plain f
+  reclaim_plain (RetiredAt grace left b) f = reclaims_plain f.0
+  reclaim_plain (Next grace left b) f = reclaims_plain f.0
+  reclaim_plain (SetHead grace left b next) f = reclaims_plain f.0
+  reclaim_plain (SetTail grace left b) f = ap plain f.0.has.row
+  reclaim_plain (Release grace left b) f = ap plain f.0.has.row
 
   -- In Finish.
-  finish-plain : (s : Finish) → FinishFacts g o n j s → Plain g
+  finish_plain : (s : Finish) → FinishFacts g o n j s → Plain g
   unfolding FinishFacts
-  finish-plain Unused f = reclaims-plain f.0
-  finish-plain Unlock f = reclaims-plain f.0
+  finish_plain Unused f = reclaims_plain f.0
+  finish_plain Unlock f = reclaims_plain f.0
 
   -- In every phase the row has no new root, or the holder waits for it.
-  phase-row : (s : Phase) → PhaseFacts v hall g o rs n j s → Plain g ⊎ RipeAt g o rs n (Updating j s)
+  phase_row : (s : Phase) → PhaseFacts v hall g o rs n j s → Plain g ⊎ RipeAt g o rs n (Updating j s)
   unfolding PhaseFacts PublishFacts plain
-  phase-row Refuse f = inl (rest_plain f)
-  phase-row Lock f = inl (rest_plain f)
-  phase-row (Checking s) f = inl (check-plain s f)
-  phase-row (Obtaining s) f = inl (obtain-plain s f)
-  phase-row (Recycling s) f = inl (recycle-plain s f)
-  phase-row (Scanning s) f = inl (scan-plain s f)
-  phase-row (Building s) f = inl (build-plain s f)
-  phase-row (Publishing FenceNodes) f = inl (ap plain f.equipped.has.row)
-  phase-row (Publishing SetRoot) f = inl (ap plain f.equipped.has.row)
-  phase-row (Publishing FenceRoot) f = elim f.4 [
+  phase_row Refuse f = inl (rest_plain f)
+  phase_row Lock f = inl (rest_plain f)
+  phase_row (Checking s) f = inl (check_plain s f)
+  phase_row (Obtaining s) f = inl (obtain_plain s f)
+  phase_row (Recycling s) f = inl (recycle_plain s f)
+  phase_row (Scanning s) f = inl (scan_plain s f)
+  phase_row (Building s) f = inl (build_plain s f)
+  phase_row (Publishing FenceNodes) f = inl (ap plain f.equipped.has.row)
+  phase_row (Publishing SetRoot) f = inl (ap plain f.equipped.has.row)
+  phase_row (Publishing FenceRoot) f = elim f.4 [
     | inl r ↦ inr (record { job = j; is = refl; whole = f.0; spent = f.1; few = f.2; short = f.3; ripens = r })
     | inr r ↦ inl (ap plain r.has.row)
   ]
-  phase-row (Retiring s) f = inl (retire-plain s f)
-  phase-row (Reclaiming s) f = inl (reclaim-plain s f)
-  phase-row (Finishing s) f = inl (finish-plain s f)
+  phase_row (Retiring s) f = inl (retire_plain s f)
+  phase_row (Reclaiming s) f = inl (reclaim_plain s f)
+  phase_row (Finishing s) f = inl (finish_plain s f)
 
 -- Whatever the registers are, the row has no new root, or the holder waits for it.
-pub writer-row : (v : ℕ → ℕ → ℕ) (hall : Hall) (g : Ghost) (o : List ℕ) (rs : List Route) (n : Now) (work : Work) → Writer v hall g o rs n work → (plain g.row ≡ true) ⊎ RipeAt g o rs n work
+pub writer_row : (v : ℕ → ℕ → ℕ) (hall : Hall) (g : Ghost) (o : List ℕ) (rs : List Route) (n : Now) (work : Work) → Writer v hall g o rs n work → (plain g.row ≡ true) ⊎ RipeAt g o rs n work
 unfolding Writer plain
-writer-row v hall g o rs n Idle f = inl (ap plain f.has.row)
-writer-row v hall g o rs n (Looking l) f = inl (ap plain f.has.row)
-writer-row v hall g o rs n (Updating j s) f = phase-row v hall g o rs n j s f
+writer_row v hall g o rs n Idle f = inl (ap plain f.has.row)
+writer_row v hall g o rs n (Looking l) f = inl (ap plain f.has.row)
+writer_row v hall g o rs n (Updating j s) f = phase_row v hall g o rs n j s f

@@ -5,9 +5,9 @@ use Rattle.routes.specs.Memory.{set_val}
 use Rattle.routes.specs.Counts.Counts.{cnt}
 use Rattle.routes.specs.Invariant.Ghosts.{Ghost, Row}
 use Rattle.routes.specs.Invariant.Memories.{Chain, last_from, Sight}
-use Rattle.routes.proofs.Basics.Places.{set_val-miss}
+use Rattle.routes.proofs.Basics.Places.{set_val_miss}
 use Rattle.routes.proofs.Counts.Lists.{cnt-++}
-use Rattle.routes.proofs.Invariant.Joining.{chain-keeps, chain-set, join-chain}
+use Rattle.routes.proofs.Invariant.Joining.{chain_keeps, chain_set, join_chain}
 
 -- with another kind of late row
 abbrev pub rowed : Row → Ghost → Ghost
@@ -22,59 +22,59 @@ abbrev pub mended : Ghost → Ghost
 mended g = record { tree = g.tree; chain = g.chain; loose = g.loose; fresh = g.fresh; stamps = g.stamps; torn = false; row = g.row }
 
 -- A word of the header differs from a word of another block.
-pub header-stays : (b w x : ℕ) (v : ℕ → ℕ → ℕ) (i : ℕ) → (b ≡ 0 → ⊥) → set_val b w x v 0 i ≡ v 0 i
-header-stays b w x v i ne = set_val-miss b w x v 0 i (λ d. ne (sym d.0))
+pub header_stays : (b w x : ℕ) (v : ℕ → ℕ → ℕ) (i : ℕ) → (b ≡ 0 → ⊥) → set_val b w x v 0 i ≡ v 0 i
+header_stays b w x v i ne = set_val_miss b w x v 0 i (λ d. ne (sym d.0))
 
 -- A word of another block differs from a word of the header.
-pub block-stays : (w x : ℕ) (v : ℕ → ℕ → ℕ) (b i : ℕ) → (b ≡ 0 → ⊥) → set_val 0 w x v b i ≡ v b i
-block-stays w x v b i ne = set_val-miss 0 w x v b i (λ d. ne d.0)
+pub block_stays : (w x : ℕ) (v : ℕ → ℕ → ℕ) (b i : ℕ) → (b ≡ 0 → ⊥) → set_val 0 w x v b i ≡ v b i
+block_stays w x v b i ne = set_val_miss 0 w x v b i (λ d. ne d.0)
 
 module _ (v : ℕ → ℕ → ℕ) (g : Ghost) (e t : ℕ) (s : Sight v g e t) where
   -- A store to a block that is not retired and linked.
-  pub sight-apart : (b w x : ℕ) → (b ≡ 0 → ⊥) → cnt b g.chain ≡ 0 → Sight (set_val b w x v) g e t
-  sight-apart b w x ne off =
-      let two = header-stays b w x v 2 ne in let three = header-stays b w x v 3 ne in let four = header-stays b w x v 4 ne in
+  pub sight_apart : (b w x : ℕ) → (b ≡ 0 → ⊥) → cnt b g.chain ≡ 0 → Sight (set_val b w x v) g e t
+  sight_apart b w x ne off =
+      let two = header_stays b w x v 2 ne in let three = header_stays b w x v 3 ne in let four = header_stays b w x v 4 ne in
       record {
         ahead = rw two s.ahead;
         early = rw two s.early;
-        linked = rw three (chain-set v (v 0 3) b w x g.chain off s.linked);
+        linked = rw three (chain_set v (v 0 3) b w x g.chain off s.linked);
         ending = λ f. four ∙ s.ending f;
-        stamped = λ k l. (set_val-miss b w x v k 31 (λ d. (let z : cnt k g.chain ≡ cnt b g.chain = ap (λ z. cnt z g.chain) d.0 in omega arith)) ∙ (s.stamped k l).0, rw two (s.stamped k l).1);
+        stamped = λ k l. (set_val_miss b w x v k 31 (λ d. (let z : cnt k g.chain ≡ cnt b g.chain = ap (λ z. cnt z g.chain) d.0 in omega arith)) ∙ (s.stamped k l).0, rw two (s.stamped k l).1);
         newest = λ k l. rw two (s.newest k l);
       }
 
   module _ (solid : (b : ℕ) → 1 ≤ cnt b g.chain → b ≡ 0 → ⊥) where
     -- A store to a word of the header that has no epoch and no limbo.
-    pub sight-root : (x : ℕ) (r : Row) → Sight (set_val 0 1 x v) (rowed r g) e t
-    sight-root x r = record {
+    pub sight_root : (x : ℕ) (r : Row) → Sight (set_val 0 1 x v) (rowed r g) e t
+    sight_root x r = record {
       ahead = s.ahead;
       early = s.early;
       ending = s.ending;
       newest = s.newest;
-      linked = chain-keeps v (set_val 0 1 x v) (v 0 3) g.chain (λ b l. block-stays 1 x v b 32 (solid b l)) s.linked;
-      stamped = λ b l. (block-stays 1 x v b 31 (solid b l) ∙ (s.stamped b l).0, (s.stamped b l).1);
+      linked = chain_keeps v (set_val 0 1 x v) (v 0 3) g.chain (λ b l. block_stays 1 x v b 32 (solid b l)) s.linked;
+      stamped = λ b l. (block_stays 1 x v b 31 (solid b l) ∙ (s.stamped b l).0, (s.stamped b l).1);
     }
 
     -- EPOCH is raised.
-    pub sight-epoch : (x : ℕ) (r : Row) → v 0 2 < x → x ≤ t → Sight (set_val 0 2 x v) (rowed r g) e t
-    sight-epoch x r more few = record {
+    pub sight_epoch : (x : ℕ) (r : Row) → v 0 2 < x → x ≤ t → Sight (set_val 0 2 x v) (rowed r g) e t
+    sight_epoch x r more few = record {
       ahead = omega (arith, s.ahead);
       early = few;
       ending = s.ending;
-      linked = chain-keeps v (set_val 0 2 x v) (v 0 3) g.chain (λ b l. block-stays 2 x v b 32 (solid b l)) s.linked;
-      stamped = λ b l. (block-stays 2 x v b 31 (solid b l) ∙ (s.stamped b l).0, omega (arith, (s.stamped b l).1));
+      linked = chain_keeps v (set_val 0 2 x v) (v 0 3) g.chain (λ b l. block_stays 2 x v b 32 (solid b l)) s.linked;
+      stamped = λ b l. (block_stays 2 x v b 31 (solid b l) ∙ (s.stamped b l).0, omega (arith, (s.stamped b l).1));
       newest = λ b l. omega (arith, s.newest b l);
     }
 
     -- LIMBO_TAIL is the last of the chain.
-    pub sight-tail : (x : ℕ) → x ≡ last_from 0 g.chain → Sight (set_val 0 4 x v) (mended g) e t
-    sight-tail x last = record {
+    pub sight_tail : (x : ℕ) → x ≡ last_from 0 g.chain → Sight (set_val 0 4 x v) (mended g) e t
+    sight_tail x last = record {
       ahead = s.ahead;
       early = s.early;
       ending = λ f. last;
       newest = s.newest;
-      linked = chain-keeps v (set_val 0 4 x v) (v 0 3) g.chain (λ b l. block-stays 4 x v b 32 (solid b l)) s.linked;
-      stamped = λ b l. (block-stays 4 x v b 31 (solid b l) ∙ (s.stamped b l).0, (s.stamped b l).1);
+      linked = chain_keeps v (set_val 0 4 x v) (v 0 3) g.chain (λ b l. block_stays 4 x v b 32 (solid b l)) s.linked;
+      stamped = λ b l. (block_stays 4 x v b 31 (solid b l) ∙ (s.stamped b l).0, (s.stamped b l).1);
     }
 
     module _ (x : ℕ) (once : (b : ℕ) → cnt b g.chain + cnt b g.loose ≤ 1) (real : (b : ℕ) → 1 ≤ cnt b g.loose → b ≡ 0 → ⊥) (links : Chain v x g.loose)
@@ -87,27 +87,27 @@ module _ (v : ℕ → ℕ → ℕ) (g : Ghost) (e t : ℕ) (s : Sight v g e t) w
       ]
 
       -- What is loose becomes the chain, where there was none.
-      pub sight-head : g.chain ≡ [] → Sight (set_val 0 3 x v) (joined g) e t
+      pub sight_head : g.chain ≡ [] → Sight (set_val 0 3 x v) (joined g) e t
       unfolding cnt
-      sight-head none = record {
+      sight_head none = record {
         ahead = s.ahead;
         early = s.early;
         ending = λ f. cc;
         newest = λ b l. absurd (omega arith);
-        linked = subst (λ z. Chain (set_val 0 3 x v) x (z ++ g.loose)) (sym none) (chain-keeps v (set_val 0 3 x v) x g.loose (λ b l. block-stays 3 x v b 32 (real b l)) links);
-        stamped = λ b l. (let f = both b l in (block-stays 3 x v b 31 f.0 ∙ f.1, f.2));
+        linked = subst (λ z. Chain (set_val 0 3 x v) x (z ++ g.loose)) (sym none) (chain_keeps v (set_val 0 3 x v) x g.loose (λ b l. block_stays 3 x v b 32 (real b l)) links);
+        stamped = λ b l. (let f = both b l in (block_stays 3 x v b 31 f.0 ∙ f.1, f.2));
       }
 
       -- Or it is linked to the chain's last.
-      pub sight-link : (b : ℕ) → (b ≡ 0 → ⊥) → b ≡ last_from 0 g.chain → Sight (set_val b 32 x v) (joined g) e t
+      pub sight_link : (b : ℕ) → (b ≡ 0 → ⊥) → b ≡ last_from 0 g.chain → Sight (set_val b 32 x v) (joined g) e t
       unfolding cnt
-      sight-link b ne last =
-          let two = header-stays b 32 x v 2 ne in let three = header-stays b 32 x v 3 ne in
+      sight_link b ne last =
+          let two = header_stays b 32 x v 2 ne in let three = header_stays b 32 x v 3 ne in
           record {
             ahead = rw two s.ahead;
             early = rw two s.early;
             ending = λ f. cc;
             newest = λ k l. absurd (omega arith);
-            linked = rw three (join-chain v (v 0 3) x b g.chain g.loose ne last once s.linked links);
-            stamped = λ k l. (let f = both k l in (set_val-miss b 32 x v k 31 (λ d. (let z = d.1 in omega arith)) ∙ f.1, rw two f.2));
+            linked = rw three (join_chain v (v 0 3) x b g.chain g.loose ne last once s.linked links);
+            stamped = λ k l. (let f = both k l in (set_val_miss b 32 x v k 31 (λ d. (let z = d.1 in omega arith)) ∙ f.1, rw two f.2));
           }

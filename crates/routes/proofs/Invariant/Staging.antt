@@ -11,14 +11,14 @@ use Rattle.routes.specs.Table.Tables.{Clean}
 use Rattle.routes.specs.Tree.Trees.{Tree}
 use Rattle.routes.specs.Invariant.Ghosts.{Ghost, Row}
 use Rattle.routes.specs.Invariant.Building.{Equipped, Staged}
-use Rattle.routes.proofs.Table.Pieces.{changed-table}
-use Rattle.routes.proofs.Table.Sound.{clean-from}
-use Rattle.routes.proofs.Build.Stages.{wants-few, stage-clean}
+use Rattle.routes.proofs.Table.Pieces.{changed_table}
+use Rattle.routes.proofs.Table.Sound.{clean_from}
+use Rattle.routes.proofs.Build.Stages.{wants_few, stage_clean}
 
 module _ (g : Ghost) (o : List ℕ) (rs : List Route) (n : Now) (j : Job) (row : Row) (ps : List Piece) (qs : List Route) (e : Equipped g o rs n j row ps qs) where
   -- At most 72 blocks are needed.
-  pub need-few : j.need ≤ 72
-  need-few = omega (arith, wants-few ps rs qs (changed-table ps rs qs e.sure.makes), e.sure.need, e.sure.pending.length', e.sure.pending.few)
+  pub need_few : j.need ≤ 72
+  need_few = omega (arith, wants_few ps rs qs (changed_table ps rs qs e.sure.makes), e.sure.need, e.sure.pending.length', e.sure.pending.few)
 
   -- A number below the size is a piece's.
   pub in_pieces : (k : ℕ) → k < j.size → k < length ps
@@ -27,21 +27,21 @@ module _ (g : Ghost) (o : List ℕ) (rs : List Route) (n : Now) (j : Job) (row :
 -- W is the working tree before piece k
 module _ (v : ℕ → ℕ → ℕ) (g : Ghost) (o : List ℕ) (rs : List Route) (n : Now) (j : Job) (k : ℕ) (W : Tree) (s : Staged v g o rs n j k W) where
   -- The piece in hand is the first of those left.
-  pub staged-piece : Stage v (words_of o) g.tree W j.need j.used j.retired j.root s.ts s.qs (get_or s.ps k blank ∷ drop (suc k) s.ps)
-  staged-piece = subst (λ z. Stage v (words_of o) g.tree W j.need j.used j.retired j.root s.ts s.qs z) (drop-cons s.ps k blank (in_pieces g o rs n j _ s.ps s.qs s.equipped k s.here)) s.stage
+  pub staged_piece : Stage v (words_of o) g.tree W j.need j.used j.retired j.root s.ts s.qs (get_or s.ps k blank ∷ drop (suc k) s.ps)
+  staged_piece = subst (λ z. Stage v (words_of o) g.tree W j.need j.used j.retired j.root s.ts s.qs z) (drop-cons s.ps k blank (in_pieces g o rs n j _ s.ps s.qs s.equipped k s.here)) s.stage
 
   -- It is clean.
-  pub staged-clean : Clean (get_or s.ps k blank).len (get_or s.ps k blank).bits
-  staged-clean = stage-clean v (words_of o) g.tree W j.need j.used j.retired j.root s.ts s.qs (get_or s.ps k blank) (drop (suc k) s.ps) staged-piece
+  pub staged_clean : Clean (get_or s.ps k blank).len (get_or s.ps k blank).bits
+  staged_clean = stage_clean v (words_of o) g.tree W j.need j.used j.retired j.root s.ts s.qs (get_or s.ps k blank) (drop (suc k) s.ps) staged_piece
 
   -- Its words are among the own words.
-  pub staged-words : piece_in o k ≡ stored (get_or s.ps k blank)
-  staged-words = s.equipped.sure.pending.words k s.here
+  pub staged_words : piece_in o k ≡ stored (get_or s.ps k blank)
+  staged_words = s.equipped.sure.pending.words k s.here
 
   -- They are clean.
-  pub staged-clean-in : CleanIn o k
-  staged-clean-in = ap (λ z. clean z.len z.bits) staged-words ∙ clean-from (get_or s.ps k blank).len (get_or s.ps k blank).bits staged-clean
+  pub staged_clean_in : CleanIn o k
+  staged_clean_in = ap (λ z. clean z.len z.bits) staged_words ∙ clean_from (get_or s.ps k blank).len (get_or s.ps k blank).bits staged_clean
 
   -- The level at which its route ends.
-  pub staged-deep : (piece_in o k).len / 4 ≡ (get_or s.ps k blank).len / 4
-  staged-deep = ap (λ z. z.len / 4) staged-words
+  pub staged_deep : (piece_in o k).len / 4 ≡ (get_or s.ps k blank).len / 4
+  staged_deep = ap (λ z. z.len / 4) staged_words

@@ -21,9 +21,9 @@ use Rattle.routes.specs.Machine.Updates.{update_after}
 use Rattle.routes.specs.Run.Nows.{in_list}
 use Rattle.routes.specs.Invariant.Ages.{pot_scan, pot_update, pot, in_way, unawaited_in, stays_scan, stays_update, stays, SameWork}
 use Rattle.routes.specs.Invariant.Registers.{loaded, loaded_in, announced, announced_in}
-use Rattle.routes.proofs.Basics.Places.{set_at-miss}
-use Rattle.routes.proofs.Run.Waits.{in-asking, in-gone}
-use Rattle.routes.proofs.Invariant.Falls.{pot-falls}
+use Rattle.routes.proofs.Basics.Places.{set_at_miss}
+use Rattle.routes.proofs.Run.Waits.{in_asking, in_gone}
+use Rattle.routes.proofs.Invariant.Falls.{pot_falls}
 
 -- how a turn may leave the registers as they are: nothing is under way, the lock was not free, or a scan stands
 pub data Stay (w : Work) (x : ℕ) : Type 0 where
@@ -32,28 +32,28 @@ pub data Stay (w : Work) (x : ℕ) : Type 0 where
   stands : (r b stamp : ℕ) (j : Job) → w ≡ Updating j (Scan (ForNode r b stamp)) → announced_before x (stamp + 1) ≡ true → Stay w x
 
 -- There is no other way.
-pub stay-is : (w : Work) (x : ℕ) → stays w x ≡ true → Stay w x
+pub stay_is : (w : Work) (x : ℕ) → stays w x ≡ true → Stay w x
 unfolding stays stays_update stays_scan
-stay-is Idle x e = rests refl
-stay-is (Looking l) x e = let z : ◌≡◌ {A = ℕ} 0 1 = cc in absurd (omega arith)
-stay-is (Updating j Refuse) x e = let z : ◌≡◌ {A = ℕ} 0 1 = cc in absurd (omega arith)
-stay-is (Updating j Lock) x e = fails j refl (λ z. (let y : not (eqb 0 0) ≡ true = rw z at e in let n : ◌≡◌ {A = ℕ} 0 1 = cc in omega arith))
-stay-is (Updating j (Check s)) x e = let z : ◌≡◌ {A = ℕ} 0 1 = cc in absurd (omega arith)
-stay-is (Updating j (Obtain s)) x e = let z : ◌≡◌ {A = ℕ} 0 1 = cc in absurd (omega arith)
-stay-is (Updating j (Recycle s)) x e = let z : ◌≡◌ {A = ℕ} 0 1 = cc in absurd (omega arith)
-stay-is (Updating j (Scan (ForNode r b stamp))) x e = stands r b stamp j refl e
-stay-is (Updating j (Scan (ForLimit r limit))) x e = let z : ◌≡◌ {A = ℕ} 0 1 = cc in absurd (omega arith)
-stay-is (Updating j (Build s)) x e = let z : ◌≡◌ {A = ℕ} 0 1 = cc in absurd (omega arith)
-stay-is (Updating j (Publish s)) x e = let z : ◌≡◌ {A = ℕ} 0 1 = cc in absurd (omega arith)
-stay-is (Updating j (Retire s)) x e = let z : ◌≡◌ {A = ℕ} 0 1 = cc in absurd (omega arith)
-stay-is (Updating j (Reclaim s)) x e = let z : ◌≡◌ {A = ℕ} 0 1 = cc in absurd (omega arith)
-stay-is (Updating j (Finish s)) x e = let z : ◌≡◌ {A = ℕ} 0 1 = cc in absurd (omega arith)
+stay_is Idle x e = rests refl
+stay_is (Looking l) x e = let z : ◌≡◌ {A = ℕ} 0 1 = cc in absurd (omega arith)
+stay_is (Updating j Refuse) x e = let z : ◌≡◌ {A = ℕ} 0 1 = cc in absurd (omega arith)
+stay_is (Updating j Lock) x e = fails j refl (λ z. (let y : not (eqb 0 0) ≡ true = rw z at e in let n : ◌≡◌ {A = ℕ} 0 1 = cc in omega arith))
+stay_is (Updating j (Check s)) x e = let z : ◌≡◌ {A = ℕ} 0 1 = cc in absurd (omega arith)
+stay_is (Updating j (Obtain s)) x e = let z : ◌≡◌ {A = ℕ} 0 1 = cc in absurd (omega arith)
+stay_is (Updating j (Recycle s)) x e = let z : ◌≡◌ {A = ℕ} 0 1 = cc in absurd (omega arith)
+stay_is (Updating j (Scan (ForNode r b stamp))) x e = stands r b stamp j refl e
+stay_is (Updating j (Scan (ForLimit r limit))) x e = let z : ◌≡◌ {A = ℕ} 0 1 = cc in absurd (omega arith)
+stay_is (Updating j (Build s)) x e = let z : ◌≡◌ {A = ℕ} 0 1 = cc in absurd (omega arith)
+stay_is (Updating j (Publish s)) x e = let z : ◌≡◌ {A = ℕ} 0 1 = cc in absurd (omega arith)
+stay_is (Updating j (Retire s)) x e = let z : ◌≡◌ {A = ℕ} 0 1 = cc in absurd (omega arith)
+stay_is (Updating j (Reclaim s)) x e = let z : ◌≡◌ {A = ℕ} 0 1 = cc in absurd (omega arith)
+stay_is (Updating j (Finish s)) x e = let z : ◌≡◌ {A = ℕ} 0 1 = cc in absurd (omega arith)
 
 -- The registers are then as they were.
-pub stay-same : (c : ℕ) (w : Work) (o : List ℕ) (x : ℕ) → Stay w x → work_after c w o x ≡ w
-stay-same c w o x (rests e) = rw e refl
-stay-same c w o x (fails j e n) = rw e (rw (ne_eqb x 0 n) refl)
-stay-same c w o x (stands r b stamp j e t) = rw e (rw t refl)
+pub stay_same : (c : ℕ) (w : Work) (o : List ℕ) (x : ℕ) → Stay w x → work_after c w o x ≡ w
+stay_same c w o x (rests e) = rw e refl
+stay_same c w o x (fails j e n) = rw e (rw (ne_eqb x 0 n) refl)
+stay_same c w o x (stands r b stamp j e t) = rw e (rw t refl)
 
 -- No reply of 0 leaves what is under way as it is.
 stay_none : (w : Work) → (w ≡ Idle → ⊥) → Stay w 0 → ⊥
@@ -62,18 +62,18 @@ stay_none w busy (fails j e n) = n refl
 stay_none w busy (stands r b stamp j e t) = let z : ◌≡◌ {A = ℕ} 0 1 = cc in omega arith
 
 -- What is under way has a turn to come.
-pub pot-some : (c : ℕ) (u : ℕ → ℕ → Bool) (w : Work) (o : List ℕ) → 1 ≤ c → WorkOk w o → (w ≡ Idle → ⊥) → 1 ≤ pot c u w
-pot-some c u w o some ok busy = elim (cases_Bool (stays w 0)) [
-  | inl e ↦ absurd (stay_none w busy (stay-is w 0 e))
-  | inr e ↦ omega (arith, pot-falls c u u w o 0 some ok e)
+pub pot_some : (c : ℕ) (u : ℕ → ℕ → Bool) (w : Work) (o : List ℕ) → 1 ≤ c → WorkOk w o → (w ≡ Idle → ⊥) → 1 ≤ pot c u w
+pot_some c u w o some ok busy = elim (cases_Bool (stays w 0)) [
+  | inl e ↦ absurd (stay_none w busy (stay_is w 0 e))
+  | inr e ↦ omega (arith, pot_falls c u u w o 0 some ok e)
 ]
 
 -- Who has loaded an epoch asks.
-pub loads-asks : (w : Work) (n : Now) → SameWork w n → 1 ≤ loaded w → is_question n ≡ true
+pub loads_asks : (w : Work) (n : Now) → SameWork w n → 1 ≤ loaded w → is_question n ≡ true
 unfolding SameWork loaded
-loads-asks Idle n k l = absurd (omega arith)
-loads-asks (Looking l) n k h = k
-loads-asks (Updating j s) n k l = absurd (omega arith)
+loads_asks Idle n k l = absurd (omega arith)
+loads_asks (Looking l) n k h = k
+loads_asks (Updating j s) n k l = absurd (omega arith)
 
 -- What is announced is what was loaded.
 pub announced-loaded : (w : Work) → (announced w ≡ 0) ⊎ (announced w ≡ loaded w)
@@ -87,86 +87,86 @@ announced-loaded (Looking (Leave e best)) = inr refl
 announced-loaded (Updating j s) = inl refl
 
 -- Who has announced an epoch at or before a stamp is in the way.
-pub stand-sees : (stamp : ℕ) (w : Work) → announced_before (announced w) (stamp + 1) ≡ true → in_way stamp w ≡ true
+pub stand_sees : (stamp : ℕ) (w : Work) → announced_before (announced w) (stamp + 1) ≡ true → in_way stamp w ≡ true
 unfolding in_way
-stand-sees stamp w t = elim (announced-loaded w) [
+stand_sees stamp w t = elim (announced-loaded w) [
   | inl e ↦ (let z : announced_before 0 (stamp + 1) ≡ true = rw e at t in cc)
   | inr e ↦ grind (arith, tests)
 ]
 
 -- Who is in the way has loaded an epoch.
-pub way-loads : (stamp : ℕ) (w : Work) → in_way stamp w ≡ true → 1 ≤ loaded w
+pub way_loads : (stamp : ℕ) (w : Work) → in_way stamp w ≡ true → 1 ≤ loaded w
 unfolding in_way
-way-loads stamp w t = grind (arith, tests)
+way_loads stamp w t = grind (arith, tests)
 
 -- An update has loaded none.
-update-loads : (r : UpdateNext) → loaded (work_of_update r) ≡ 0
+update_loads : (r : UpdateNext) → loaded (work_of_update r) ≡ 0
 unfolding loaded
-update-loads (On j s) = refl
-update-loads (Told a) = refl
+update_loads (On j s) = refl
+update_loads (Told a) = refl
 
 -- A turn of a lookup past its load leaves what it has loaded, or ends it.
-lookup-loads : (l : Lookup) (x : ℕ) → 1 ≤ loaded_in l → (loaded (work_of_lookup (lookup_after l x)) ≡ 0) ⊎ (loaded (work_of_lookup (lookup_after l x)) ≡ loaded_in l)
+lookup_loads : (l : Lookup) (x : ℕ) → 1 ≤ loaded_in l → (loaded (work_of_lookup (lookup_after l x)) ≡ 0) ⊎ (loaded (work_of_lookup (lookup_after l x)) ≡ loaded_in l)
 unfolding loaded loaded_in
-lookup-loads (Epoch a) x h = absurd (omega arith)
-lookup-loads (Announce a e) x h = inr refl
-lookup-loads (Root a e) x h = elim (cases_Bool (eqb (child_of x) 0)) [ inl f ↦ rw f (inr refl) | inr f ↦ rw f (inr refl) ]
-lookup-loads (Node a e d b best) x h = elim (cases_Bool (eqb (child_of x) 0 || eqb d 8)) [ inl f ↦ rw f (inr refl) | inr f ↦ rw f (inr refl) ]
-lookup-loads (Leave e best) x h = inl refl
+lookup_loads (Epoch a) x h = absurd (omega arith)
+lookup_loads (Announce a e) x h = inr refl
+lookup_loads (Root a e) x h = elim (cases_Bool (eqb (child_of x) 0)) [ inl f ↦ rw f (inr refl) | inr f ↦ rw f (inr refl) ]
+lookup_loads (Node a e d b best) x h = elim (cases_Bool (eqb (child_of x) 0 || eqb d 8)) [ inl f ↦ rw f (inr refl) | inr f ↦ rw f (inr refl) ]
+lookup_loads (Leave e best) x h = inl refl
 
 -- Nobody comes into the way: who loads EPOCH now loads one past the stamp.
-pub way-after : (c stamp epoch : ℕ) (w : Work) (o : List ℕ) (x : ℕ) → stamp < epoch → ((a : ℕ) → w ≡ Looking (Epoch a) → x ≡ epoch) → in_way stamp (work_after c w o x) ≡ true → in_way stamp w ≡ true
+pub way_after : (c stamp epoch : ℕ) (w : Work) (o : List ℕ) (x : ℕ) → stamp < epoch → ((a : ℕ) → w ≡ Looking (Epoch a) → x ≡ epoch) → in_way stamp (work_after c w o x) ≡ true → in_way stamp w ≡ true
 unfolding in_way loaded loaded_in
-way-after c stamp epoch Idle o x past loads t = t
-way-after c stamp epoch (Looking (Epoch a)) o x past loads t = let e = loads a refl in grind (arith, tests)
-way-after c stamp epoch (Looking (Announce a e)) o x past loads t = t
-way-after c stamp epoch (Looking (Root a e)) o x past loads t = let h = lookup-loads (Root a e) x (omega arith) in grind (arith, tests)
-way-after c stamp epoch (Looking (Node a e d b best)) o x past loads t = let h = lookup-loads (Node a e d b best) x (omega arith) in grind (arith, tests)
-way-after c stamp epoch (Looking (Leave e best)) o x past loads t = let h = lookup-loads (Leave e best) x (omega arith) in grind (arith, tests)
-way-after c stamp epoch (Updating j s) o x past loads t = let h = update-loads (update_after c j s o x) in grind (arith, tests)
+way_after c stamp epoch Idle o x past loads t = t
+way_after c stamp epoch (Looking (Epoch a)) o x past loads t = let e = loads a refl in grind (arith, tests)
+way_after c stamp epoch (Looking (Announce a e)) o x past loads t = t
+way_after c stamp epoch (Looking (Root a e)) o x past loads t = let h = lookup_loads (Root a e) x (omega arith) in grind (arith, tests)
+way_after c stamp epoch (Looking (Node a e d b best)) o x past loads t = let h = lookup_loads (Node a e d b best) x (omega arith) in grind (arith, tests)
+way_after c stamp epoch (Looking (Leave e best)) o x past loads t = let h = lookup_loads (Leave e best) x (omega arith) in grind (arith, tests)
+way_after c stamp epoch (Updating j s) o x past loads t = let h = update_loads (update_after c j s o x) in grind (arith, tests)
 
 -- What is left depends on who is in the way only while a scan stands.
-pub pot-less : (c : ℕ) (u v : ℕ → ℕ → Bool) (w : Work) → ((r b stamp : ℕ) (j : Job) → w ≡ Updating j (Scan (ForNode r b stamp)) → u stamp r ≡ true → v stamp r ≡ true) → pot c u w ≤ pot c v w
+pub pot_less : (c : ℕ) (u v : ℕ → ℕ → Bool) (w : Work) → ((r b stamp : ℕ) (j : Job) → w ≡ Updating j (Scan (ForNode r b stamp)) → u stamp r ≡ true → v stamp r ≡ true) → pot c u w ≤ pot c v w
 unfolding pot pot_update pot_scan
-pot-less c u v Idle h = omega arith
-pot-less c u v (Looking l) h = omega arith
-pot-less c u v (Updating j Refuse) h = omega arith
-pot-less c u v (Updating j Lock) h = omega arith
-pot-less c u v (Updating j (Check s)) h = omega arith
-pot-less c u v (Updating j (Obtain s)) h = omega arith
-pot-less c u v (Updating j (Recycle s)) h = omega arith
-pot-less c u v (Updating j (Scan (ForNode r b stamp))) h = elim (cases_Bool (u stamp r)) [
+pot_less c u v Idle h = omega arith
+pot_less c u v (Looking l) h = omega arith
+pot_less c u v (Updating j Refuse) h = omega arith
+pot_less c u v (Updating j Lock) h = omega arith
+pot_less c u v (Updating j (Check s)) h = omega arith
+pot_less c u v (Updating j (Obtain s)) h = omega arith
+pot_less c u v (Updating j (Recycle s)) h = omega arith
+pot_less c u v (Updating j (Scan (ForNode r b stamp))) h = elim (cases_Bool (u stamp r)) [
   | inl e ↦ rw (e, h r b stamp j refl e) (omega arith)
   | inr e ↦ rw e (omega arith)
 ]
-pot-less c u v (Updating j (Scan (ForLimit r limit))) h = omega arith
-pot-less c u v (Updating j (Build s)) h = omega arith
-pot-less c u v (Updating j (Publish s)) h = omega arith
-pot-less c u v (Updating j (Retire s)) h = omega arith
-pot-less c u v (Updating j (Reclaim s)) h = omega arith
-pot-less c u v (Updating j (Finish s)) h = omega arith
+pot_less c u v (Updating j (Scan (ForLimit r limit))) h = omega arith
+pot_less c u v (Updating j (Build s)) h = omega arith
+pot_less c u v (Updating j (Publish s)) h = omega arith
+pot_less c u v (Updating j (Retire s)) h = omega arith
+pot_less c u v (Updating j (Reclaim s)) h = omega arith
+pot_less c u v (Updating j (Finish s)) h = omega arith
 
 -- Another's step that does not bring it into the way leaves no more.
-pub other-left : (c p : ℕ) (w' : Work) (work : ℕ → Work) (ws : List ℕ) (w : Work) → ((r b stamp : ℕ) (j : Job) → w ≡ Updating j (Scan (ForNode r b stamp)) → in_way stamp w' ≡ true → in_way stamp (work p) ≡ true) →
+pub other_left : (c p : ℕ) (w' : Work) (work : ℕ → Work) (ws : List ℕ) (w : Work) → ((r b stamp : ℕ) (j : Job) → w ≡ Updating j (Scan (ForNode r b stamp)) → in_way stamp w' ≡ true → in_way stamp (work p) ≡ true) →
     pot c (unawaited_in (set_at p w' work) ws) w ≤ pot c (unawaited_in work ws) w
 unfolding unawaited_in
-other-left c p w' work ws w h = pot-less c _ _ w (λ r b stamp j e t. elim (eqb_tells r p) [
+other_left c p w' work ws w h = pot_less c _ _ w (λ r b stamp j e t. elim (eqb_tells r p) [
   | inl i ↦ (let way = h r b stamp j e in let same : work r ≡ work p = ap work i.1 in rw same (grind (arith, tests)))
-  | inr i ↦ rw (set_at-miss p r w' work i.1) at t
+  | inr i ↦ rw (set_at_miss p r w' work i.1) at t
 ])
 
 -- Who has told its answer is in nobody's way, and is waited for by nobody.
-pub told-left : (c p : ℕ) (work : ℕ → Work) (ws : List ℕ) (w : Work) → work p ≡ Idle → pot c (unawaited_in work (gone p ws)) w ≤ pot c (unawaited_in work ws) w
+pub told_left : (c p : ℕ) (work : ℕ → Work) (ws : List ℕ) (w : Work) → work p ≡ Idle → pot c (unawaited_in work (gone p ws)) w ≤ pot c (unawaited_in work ws) w
 unfolding unawaited_in in_way loaded
-told-left c p work ws w idle = pot-less c _ _ w (λ r b stamp j e t. (let g = in-gone r p ws in elim (eqb_tells r p) [
+told_left c p work ws w idle = pot_less c _ _ w (λ r b stamp j e t. (let g = in_gone r p ws in elim (eqb_tells r p) [
   | inl i ↦ (let none : loaded (work r) ≡ 0 = rw (ap work i.1 ∙ idle) refl in grind (arith, tests))
   | inr i ↦ grind (arith, tests)
 ]))
 
 -- A scan that stands, in a turn that counts: it waits for who is in the way from now on.
-pub stand-counts : (c : ℕ) (work : ℕ → Work) (s : State) (j : Job) (r b stamp : ℕ) → r < c → in_way stamp (work r) ≡ true → is_question (s.now' r) ≡ true →
+pub stand_counts : (c : ℕ) (work : ℕ → Work) (s : State) (j : Job) (r b stamp : ℕ) → r < c → in_way stamp (work r) ≡ true → is_question (s.now' r) ≡ true →
     suc (pot_scan c (unawaited_in work (asking c s)) j (ForNode r b stamp)) ≤ pot_scan c (unawaited_in work []) j (ForNode r b stamp)
 unfolding pot_scan unawaited_in in_list
-stand-counts c work s j r b stamp small way asks = let e = in-asking r c s in
+stand_counts c work s j r b stamp small way asks = let e = in_asking r c s in
     let waited : in_list r (asking c s) ≡ true = grind (arith, tests) in
     rw (way, waited) (omega arith)

@@ -18,10 +18,10 @@ use Rattle.routes.specs.Invariant.Readers.{Does, Reader}
 use Rattle.routes.specs.Invariant.Registers.{holds, announced, loaded, passed}
 use Rattle.routes.specs.Invariant.Writers.{Writer, hall_of}
 use Rattle.routes.specs.Invariant.Inv.{Lock, Cpus, Inv, set_cpu}
-use Rattle.routes.proofs.Basics.Places.{set_at-hit}
-use Rattle.routes.proofs.Run.Steps.{turned-over}
+use Rattle.routes.proofs.Basics.Places.{set_at_hit}
+use Rattle.routes.proofs.Run.Steps.{turned_over}
 use Rattle.routes.proofs.Invariant.Alike.{Hidden, Ends, on, told, Passes, same}
-use Rattle.routes.proofs.Invariant.Rely.{Leaves, reader-stays}
+use Rattle.routes.proofs.Invariant.Rely.{Leaves, reader_stays}
 
 -- p has the lock, or had it last
 abbrev pub lock_of : ℕ → Bool → Lock
@@ -50,14 +50,14 @@ turn_on {cpus = cpus} {p = p} {s' = s'} {k = k} {g = g} {trail = trail} h r y i 
     { lock = k; ghost = g; trail = trail; state = turned_at cpus p s'; run = turns p r y; inv = i; before = s'; hidden = h; middle = turned_at cpus p s'; ends = on; nows = λ q. same; waits = refl }
 
 -- A turn in which p tells its answer.
-pub turn-told : {m : Mem} {t : ℕ} {c : Cpus} {cpus blocks : ℕ} {es : List Event} {p : ℕ} {s s' : State} {k : Lock} {g : Ghost} {trail : ℕ → List ℕ} (ask : Ask) (a : Answer) (age : ℕ) →
+pub turn_told : {m : Mem} {t : ℕ} {c : Cpus} {cpus blocks : ℕ} {es : List Event} {p : ℕ} {s s' : State} {k : Lock} {g : Ghost} {trail : ℕ → List ℕ} (ask : Ask) (a : Answer) (age : ℕ) →
     Hidden p s s' → Run cpus blocks es s' → T (young (s'.now' p)) → s'.now' p ≡ Over ask a age → Inv m k g trail (told_at p (turned_at cpus p s')) t c → Turn m t c cpus blocks (Told p a ∷ Turned p ∷ es) p s
-turn-told {cpus = cpus} {p = p} {s' = s'} {k = k} {g = g} {trail = trail} ask a age h r y e i = record {
+turn_told {cpus = cpus} {p = p} {s' = s'} {k = k} {g = g} {trail = trail} ask a age h r y e i = record {
   lock = k;
   ghost = g;
   trail = trail;
   state = told_at p (turned_at cpus p s');
-  run = tells p (turns p r y) (turned-over cpus p s' ask a age e);
+  run = tells p (turns p r y) (turned_over cpus p s' ask a age e);
   inv = i;
   before = s';
   hidden = h;
@@ -85,12 +85,12 @@ pub record Steps (m : Mem) (g : Ghost) (trail : ℕ → List ℕ) (s : State) (c
   pub scanned : (q b : ℕ) → q < (passed m.cpus work).many → 1 ≤ cnt b (trail q) → 1 ≤ limbo g' b → (passed m.cpus work).limit ≤ g'.stamps b
 
 -- Then the invariant holds of it.
-pub steps-inv : {m : Mem} {k : Lock} {g : Ghost} {trail : ℕ → List ℕ} {s : State} {t : ℕ} {c : Cpus} {p : ℕ} {held' : Bool} {m' : Mem} {g' : Ghost} {s' : State} {t' : ℕ} {work : Work} {own : List ℕ} →
+pub steps_inv : {m : Mem} {k : Lock} {g : Ghost} {trail : ℕ → List ℕ} {s : State} {t : ℕ} {c : Cpus} {p : ℕ} {held' : Bool} {m' : Mem} {g' : Ghost} {s' : State} {t' : ℕ} {work : Work} {own : List ℕ} →
     Inv m k g trail s t c → Steps m g trail s c p held' m' g' s' t' work own → Inv m' (lock_of p held') g' trail s' t' (set_cpu p work own c)
-steps-inv {m} {k} {g} {trail} {s} {t} {c} {p} {held'} {m'} {g'} {s'} {t'} {work} {own} i n = record {
+steps_inv {m} {k} {g} {trail} {s} {t} {c} {p} {held'} {m'} {g'} {s'} {t'} {work} {own} i n = record {
   core = n.core;
   readers = λ q. elim (eqb_tells q p) [
-    | inl e ↦ subst (λ z. Reader m' g' (trail z) z (set_at p work c.work z) (set_at p own c.own z) (s'.now' z)) (sym e.1) (rw (set_at-hit p p work c.work refl, set_at-hit p p own c.own refl) mine)
+    | inl e ↦ subst (λ z. Reader m' g' (trail z) z (set_at p work c.work z) (set_at p own c.own z) (s'.now' z)) (sym e.1) (rw (set_at_hit p p work c.work refl, set_at_hit p p own c.own refl) mine)
     | inr e ↦ rw (e.0, n.nows q e.1) (kept q)
   ];
   leads = n.leads;
@@ -103,19 +103,19 @@ steps-inv {m} {k} {g} {trail} {s} {t} {c} {p} {held'} {m'} {g'} {s'} {t'} {work}
     | inl e ↦ rw e.0 n.room
     | inr e ↦ rw e.0 (i.room q (omega (arith, n.cpus)))
   ];
-  writer = rw (set_at-hit p p work c.work refl, set_at-hit p p own c.own refl) n.writer;
-  scanned = rw (set_at-hit p p work c.work refl, n.cpus) n.scanned;
+  writer = rw (set_at_hit p p work c.work refl, set_at_hit p p own c.own refl) n.writer;
+  scanned = rw (set_at_hit p p work c.work refl, n.cpus) n.scanned;
 }
   where
     kept : (q : ℕ) → Reader m' g' (trail q) q (c.work q) (c.own q) (s.now' q)
-    kept q = reader-stays (n.leaves q) (i.readers q)
+    kept q = reader_stays (n.leaves q) (i.readers q)
 
     mine : Reader m' g' (trail p) p work own (s'.now' p)
     mine = record { active = (kept p).active ∙ n.silent; old = rw n.unloaded (omega arith); does = n.does; safe = (kept p).safe; clear = λ b a d. rw n.unloaded (omega arith) }
 
 -- It may be said for any later turn.
-pub inv-later : {m : Mem} {k : Lock} {g : Ghost} {trail : ℕ → List ℕ} {s : State} {t t' : ℕ} {c : Cpus} → t ≤ t' → Inv m k g trail s t c → Inv m k g trail s t' c
-inv-later {m} {k} {g} {s = s} {t = t} {t' = t'} l i = record {
+pub inv_later : {m : Mem} {k : Lock} {g : Ghost} {trail : ℕ → List ℕ} {s : State} {t t' : ℕ} {c : Cpus} → t ≤ t' → Inv m k g trail s t c → Inv m k g trail s t' c
+inv_later {m} {k} {g} {s = s} {t = t} {t' = t'} l i = record {
   core = record {
     sizes = o.sizes;
     others = o.others;
@@ -141,20 +141,20 @@ inv-later {m} {k} {g} {s = s} {t = t} {t' = t'} l i = record {
     o = i.core
 
 -- Registers that hold the lock announce nothing and have loaded no epoch.
-pub holds-silent : (work : Work) → holds work ≡ true → (announced work ≡ 0) × (loaded work ≡ 0)
+pub holds_silent : (work : Work) → holds work ≡ true → (announced work ≡ 0) × (loaded work ≡ 0)
 unfolding holds announced loaded
-holds-silent Idle e = absurd (false≢true e)
-holds-silent (Looking l) e = absurd (false≢true e)
-holds-silent (Updating j s) e = (refl, refl)
+holds_silent Idle e = absurd (false≢true e)
+holds_silent (Looking l) e = absurd (false≢true e)
+holds_silent (Updating j s) e = (refl, refl)
 
 module _ {m : Mem} {k : Lock} {g : Ghost} {trail : ℕ → List ℕ} {s : State} {t : ℕ} {c : Cpus} (i : Inv m k g trail s t c) (p : ℕ) where
   -- Who has registers that hold the lock has it.
-  pub holder-is : holds (c.work p) ≡ true → k ≡ lock_of p true
-  holder-is h =
+  pub holder_is : holds (c.work p) ≡ true → k ≡ lock_of p true
+  holder_is h =
       let a = and_parts k.held (eqb p k.who) (sym (i.holding p) ∙ h) in
       let e : k.who ≡ p = sym (eqb-true p k.who a.1) in
       rw (a.0, e) refl
 
   -- Registers that are not idle are those of a processor that there is.
-  pub busy-small : (c.work p ≡ Idle → ⊥) → p < m.cpus
-  busy-small ne = elim (cases_lt p m.cpus) [ inl l ↦ l | inr l ↦ absurd (ne (i.outside p l)) ]
+  pub busy_small : (c.work p ≡ Idle → ⊥) → p < m.cpus
+  busy_small ne = elim (cases_lt p m.cpus) [ inl l ↦ l | inr l ↦ absurd (ne (i.outside p l)) ]

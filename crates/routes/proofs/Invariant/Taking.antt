@@ -13,12 +13,12 @@ use Rattle.routes.specs.Invariant.Ghosts.{Ghost}
 use Rattle.routes.specs.Invariant.Inv.{Cpus, Inv, set_cpu}
 use Rattle.routes.specs.Invariant.Writers.{hall_of}
 use Rattle.routes.proofs.Invariant.Alike.{alike_same}
-use Rattle.routes.proofs.Invariant.Arriving.{turn-arrives}
-use Rattle.routes.proofs.Invariant.Fencing.{turn-later}
+use Rattle.routes.proofs.Invariant.Arriving.{turn_arrives}
+use Rattle.routes.proofs.Invariant.Fencing.{turn_later}
 use Rattle.routes.proofs.Invariant.GoingOn.{GoesOn}
-use Rattle.routes.proofs.Invariant.Holding.{load-turn, pause-turn}
+use Rattle.routes.proofs.Invariant.Holding.{load_turn, pause_turn}
 use Rattle.routes.proofs.Invariant.Steps.{lock_of, Turn}
-use Rattle.routes.proofs.Invariant.Storing.{StoreOk, store-turn}
+use Rattle.routes.proofs.Invariant.Storing.{StoreOk, store_turn}
 
 -- right after the ask memory is this, from which what is late may have arrived till n
 pub record Takes (t : ℕ) (c : Cpus) (p : ℕ) (s : State) (own : List ℕ) (next : UpdateNext) (cpus blocks : ℕ) (es : List Event) (n : Mem) : Type 0 where
@@ -32,48 +32,48 @@ pub record Takes (t : ℕ) (c : Cpus) (p : ℕ) (s : State) (own : List ℕ) (ne
 module _ {m : Mem} {g : Ghost} {trail : ℕ → List ℕ} {s : State} {t : ℕ} {c : Cpus} {p cpus blocks : ℕ} {es : List Event}
     (i : Inv m (lock_of p true) g trail s t c) (r : Run cpus blocks es s) (y : T (young (s.now' p))) (n : Mem) (own : List ℕ) (room : length own ≡ 4096) (next : UpdateNext) where
   -- A load.
-  pub takes-load : Arrives (counted m) n → GoesOn (view p m) (hall_of m) g own s.table (s.now' p) next → Takes t c p s own next cpus blocks es n
-  takes-load a k = record {
+  pub takes_load : Arrives (counted m) n → GoesOn (view p m) (hall_of m) g own s.table (s.now' p) next → Takes t c p s own next cpus blocks es n
+  takes_load a k = record {
     memory = counted m;
     arrives = a;
     job = k.job;
     phase = k.phase;
     is = k.is;
-    turn = load-turn k.job k.phase own i (alike_same p s) r y k.holds' room k.facts (λ q b l. absurd (omega (arith, k.unpassed m.cpus)));
+    turn = load_turn k.job k.phase own i (alike_same p s) r y k.holds' room k.facts (λ q b l. absurd (omega (arith, k.unpassed m.cpus)));
   }
 
   -- Nothing.
-  pub takes-pause : Arrives m n → GoesOn (view p m) (hall_of m) g own s.table (s.now' p) next → Takes t c p s own next cpus blocks es n
-  takes-pause a k = record {
+  pub takes_pause : Arrives m n → GoesOn (view p m) (hall_of m) g own s.table (s.now' p) next → Takes t c p s own next cpus blocks es n
+  takes_pause a k = record {
     memory = m;
     arrives = a;
     job = k.job;
     phase = k.phase;
     is = k.is;
-    turn = pause-turn k.job k.phase own i (alike_same p s) r y k.holds' room k.facts (λ q b l. absurd (omega (arith, k.unpassed m.cpus)));
+    turn = pause_turn k.job k.phase own i (alike_same p s) r y k.holds' room k.facts (λ q b l. absurd (omega (arith, k.unpassed m.cpus)));
   }
 
   -- A store.
-  pub takes-store : (b w x t' : ℕ) (g' : Ghost) → Arrives (counted (stored p b w x m)) n → StoreOk m p g t' b w x g' → GoesOn (set_val b w x (view p m)) (hall_of m) g' own s.table (s.now' p) next → Takes t' c p s own next cpus blocks es n
-  takes-store b w x t' g' a o k = record {
+  pub takes_store : (b w x t' : ℕ) (g' : Ghost) → Arrives (counted (stored p b w x m)) n → StoreOk m p g t' b w x g' → GoesOn (set_val b w x (view p m)) (hall_of m) g' own s.table (s.now' p) next → Takes t' c p s own next cpus blocks es n
+  takes_store b w x t' g' a o k = record {
     memory = counted (stored p b w x m);
     arrives = a;
     job = k.job;
     phase = k.phase;
     is = k.is;
-    turn = store-turn k.job k.phase own i (alike_same p s) r y o k.holds' room k.facts (λ q b l. absurd (omega (arith, k.unpassed m.cpus)));
+    turn = store_turn k.job k.phase own i (alike_same p s) r y o k.holds' room k.facts (λ q b l. absurd (omega (arith, k.unpassed m.cpus)));
   }
 
 -- It may be said for the next turn.
-pub takes-later : {t : ℕ} {c : Cpus} {p : ℕ} {s : State} {own : List ℕ} {next : UpdateNext} {cpus blocks : ℕ} {es : List Event} {n : Mem} → Takes t c p s own next cpus blocks es n → Takes (suc t) c p s own next cpus blocks es n
-takes-later k = record { memory = k.memory; arrives = k.arrives; job = k.job; phase = k.phase; is = k.is; turn = turn-later k.turn }
+pub takes_later : {t : ℕ} {c : Cpus} {p : ℕ} {s : State} {own : List ℕ} {next : UpdateNext} {cpus blocks : ℕ} {es : List Event} {n : Mem} → Takes t c p s own next cpus blocks es n → Takes (suc t) c p s own next cpus blocks es n
+takes_later k = record { memory = k.memory; arrives = k.arrives; job = k.job; phase = k.phase; is = k.is; turn = turn_later k.turn }
 
 -- Whatever arrives after it, the turn leads to the registers that come next.
-pub takes-turn : {t : ℕ} {c : Cpus} {p : ℕ} {s : State} {own : List ℕ} {next : UpdateNext} {cpus blocks : ℕ} {es : List Event} {n : Mem} → Takes t c p s own next cpus blocks es n →
+pub takes_turn : {t : ℕ} {c : Cpus} {p : ℕ} {s : State} {own : List ℕ} {next : UpdateNext} {cpus blocks : ℕ} {es : List Event} {n : Mem} → Takes t c p s own next cpus blocks es n →
     Turn n t (set_cpu p (work_of_update next) own c) cpus blocks (Turned p ∷ es) p s
-takes-turn {t} {c} {p} {s} {own} {cpus = cpus} {blocks = blocks} {es = es} {n = n} k =
-    subst (λ z. Turn n t (set_cpu p (work_of_update z) own c) cpus blocks (Turned p ∷ es) p s) (sym k.is) (turn-arrives k.arrives k.turn)
+takes_turn {t} {c} {p} {s} {own} {cpus = cpus} {blocks = blocks} {es = es} {n = n} k =
+    subst (λ z. Turn n t (set_cpu p (work_of_update z) own c) cpus blocks (Turned p ∷ es) p s) (sym k.is) (turn_arrives k.arrives k.turn)
 
 -- And nothing is told.
-pub takes-untold : {t : ℕ} {c : Cpus} {p : ℕ} {s : State} {own : List ℕ} {next : UpdateNext} {cpus blocks : ℕ} {es : List Event} {n : Mem} → Takes t c p s own next cpus blocks es n → told_of_update next ≡ None
-takes-untold k = ap told_of_update k.is
+pub takes_untold : {t : ℕ} {c : Cpus} {p : ℕ} {s : State} {own : List ℕ} {next : UpdateNext} {cpus blocks : ℕ} {es : List Event} {n : Mem} → Takes t c p s own next cpus blocks es n → told_of_update next ≡ None
+takes_untold k = ap told_of_update k.is

@@ -19,10 +19,10 @@ use Rattle.routes.specs.Machine.Cpus.{Ready, Stepped, Begun, WorkOk, act, work_a
 use Rattle.routes.specs.Invariant.Inv.{set_cpu}
 use Rattle.routes.specs.Invariant.Known.{Known, Between, idle_cpu, part_of, cpus_of, seen_of, idle_cpus, After}
 use Rattle.routes.proofs.Basics.Tests.{T_true}
-use Rattle.routes.proofs.Invariant.Mains.{known_start, known_next, known-begin, known-later, known-ready, known_step}
-use Rattle.routes.proofs.Invariant.Parts.{part_length, cpus-put, put-length}
-use Rattle.routes.proofs.Invariant.Sizes.{did-sizes}
-use Rattle.routes.proofs.Late.Arriving.{Later, arrives-later}
+use Rattle.routes.proofs.Invariant.Mains.{known_start, known_next, known_begin, known_later, known_ready, known_step}
+use Rattle.routes.proofs.Invariant.Parts.{part_length, cpus_put, put-length}
+use Rattle.routes.proofs.Invariant.Sizes.{did_sizes}
+use Rattle.routes.proofs.Late.Arriving.{Later, arrives_later}
 
 -- A test that does not hold is false.
 not-false : (b : Bool) → T (not b) → b ≡ false
@@ -30,9 +30,9 @@ not-false true t = absurd t
 not-false false t = refl
 
 -- Before the first turn all registers are idle.
-pub turning-start : (m : Mem) (es : List Event) (cs : List Cpu) (own : List ℕ) (ps : List Piece) → AtStart m → es ≡ [] → ((q : ℕ) → q < length cs → (get_or cs q idle_cpu).work ≡ Idle) →
+pub turning_start : (m : Mem) (es : List Event) (cs : List Cpu) (own : List ℕ) (ps : List Piece) → AtStart m → es ≡ [] → ((q : ℕ) → q < length cs → (get_or cs q idle_cpu).work ≡ Idle) →
     length cs ≡ m.cpus → length own ≡ 4096 * m.cpus → length ps ≡ 8 → Between m es 0 cs own ps
-turning-start m es cs own ps a none idle regs words eight = record {
+turning_start m es cs own ps a none idle regs words eight = record {
   known = subst (λ z. Known m z 0 (cpus_of cs own)) (sym none) (subst (Known m [] 0) same (known_start m (λ q. part_of q own) a (λ q l. part_length own m.cpus q words l)));
   registers = regs;
   words = words;
@@ -50,23 +50,23 @@ turning-start m es cs own ps a none idle regs words eight = record {
 
 module _ {m : Mem} {es : List Event} {t : ℕ} {cs : List Cpu} {own : List ℕ} {ps : List Piece} (b : Between m es t cs own ps) (p : ℕ) where
   -- Who begins something is a processor that there is,
-  pub begins-inside : (fs : List Event) (ps' : List Piece) {turn : Turn} {k : Ask} → turn ≡ Begin k → Next turn p ps' m es fs → p < length cs
+  pub begins_inside : (fs : List Event) (ps' : List Piece) {turn : Turn} {k : Ask} → turn ≡ Begin k → Next turn p ps' m es fs → p < length cs
   unfolding Next
-  begins-inside fs ps' {turn} {k} e x = let next : Next (Begin k) p ps' m es fs = subst (λ z. Next z p ps' m es fs) e x in rw b.registers next.0
+  begins_inside fs ps' {turn} {k} e x = let next : Next (Begin k) p ps' m es fs = subst (λ z. Next z p ps' m es fs) e x in rw b.registers next.0
 
   -- and so is who goes on.
-  pub goes-inside : (fs : List Event) (ps' : List Piece) {turn : Turn} → turn ≡ Go → Next turn p ps' m es fs → p < length cs
+  pub goes_inside : (fs : List Event) (ps' : List Piece) {turn : Turn} → turn ≡ Go → Next turn p ps' m es fs → p < length cs
   unfolding Next
-  goes-inside fs ps' e x = let next : Next Go p ps' m es fs = subst (λ z. Next z p ps' m es fs) e x in rw b.registers next.0
+  goes_inside fs ps' e x = let next : Next Go p ps' m es fs = subst (λ z. Next z p ps' m es fs) e x in rw b.registers next.0
 
   -- It has its part of the own words.
-  pub turning-room : p < length cs → p * 4096 + 4096 ≤ length own
-  turning-room l = let r = b.registers in let w = b.words in omega arith
+  pub turning_room : p < length cs → p * 4096 + 4096 ≤ length own
+  turning_room l = let r = b.registers in let w = b.words in omega arith
 
 -- To go on shows nothing new.
-pub goes-seen : (m : Mem) {es fs : List Event} (ps' : List Piece) {turn : Turn} (p : ℕ) → turn ≡ Go → Next turn p ps' m es fs → fs ≡ es
+pub goes_seen : (m : Mem) {es fs : List Event} (ps' : List Piece) {turn : Turn} (p : ℕ) → turn ≡ Go → Next turn p ps' m es fs → fs ≡ es
 unfolding Next
-goes-seen m {es} {fs} ps' p e x = (subst (λ z. Next z p ps' m es fs) e x).2
+goes_seen m {es} {fs} ps' p e x = (subst (λ z. Next z p ps' m es fs) e x).2
 
 -- after a turn of p, and before the world has taken note of it
 pub record Turned' (m : Mem) (es : List Event) (t : ℕ) (cs : List Cpu) (own : List ℕ) (ps : List Piece) (p : ℕ) (r : Option Answer) : Type 0 where
@@ -76,8 +76,8 @@ pub record Turned' (m : Mem) (es : List Event) (t : ℕ) (cs : List Cpu) (own : 
   pub pieces : length ps ≡ 8
 
 -- The world has taken note of all of it.
-pub turning-noted : {m : Mem} {es : List Event} {t : ℕ} {cs : List Cpu} {own : List ℕ} {ps : List Piece} {p : ℕ} {r : Option Answer} (n : Mem) (fs : List Event) → n ≡ m → fs ≡ seen_of p r es → Turned' m es t cs own ps p r → Between n fs t cs own ps
-turning-noted {m} {es} {t} {cs} {own} {ps} {p} {r} n fs e f w = subst (λ z. Between z fs t cs own ps) (sym e) (subst (λ z. Between m z t cs own ps) (sym f)
+pub turning_noted : {m : Mem} {es : List Event} {t : ℕ} {cs : List Cpu} {own : List ℕ} {ps : List Piece} {p : ℕ} {r : Option Answer} (n : Mem) (fs : List Event) → n ≡ m → fs ≡ seen_of p r es → Turned' m es t cs own ps p r → Between n fs t cs own ps
+turning_noted {m} {es} {t} {cs} {own} {ps} {p} {r} n fs e f w = subst (λ z. Between z fs t cs own ps) (sym e) (subst (λ z. Between m z t cs own ps) (sym f)
     (record { known = w.after.known; registers = w.registers; words = w.words; pieces = w.pieces }))
 
 -- the world has said that p is next, and stores have arrived since
@@ -93,11 +93,11 @@ module _ {m : Mem} {es : List Event} {t : ℕ} {cs : List Cpu} {own : List ℕ} 
 
   -- Arriving keeps who may ask, and how often.
   later : Later (allowed p m) n
-  later = arrives-later a
+  later = arrives_later a
 
   -- It is known still.
-  known-now : Known n es t (cpus_of cs own)
-  known-now = known_next _ _ _ _ _ p b.known a
+  known_now : Known n es t (cpus_of cs own)
+  known_now = known_next _ _ _ _ _ p b.known a
 
   -- what registers and own words of p become is known
   module _ (d : Cpu) (u : List ℕ) (small : p < m.cpus) (long : length u ≡ length lent) where
@@ -109,21 +109,21 @@ module _ {m : Mem} {es : List Event} {t : ℕ} {cs : List Cpu} {own : List ℕ} 
 
     -- They are those of p, and all others stay.
     put_is : cpus_of cs' own' ≡ set_cpu p d.work u (cpus_of cs own)
-    put_is = cpus-put own u m.cpus p (p * 4096 + 4096 - p * 4096) b.words small (long ∙ ap length lent_is ∙ part_length own m.cpus p b.words small) (omega arith) cs d (rw b.registers small)
+    put_is = cpus_put own u m.cpus p (p * 4096 + 4096 - p * 4096) b.words small (long ∙ ap length lent_is ∙ part_length own m.cpus p b.words small) (omega arith) cs d (rw b.registers small)
 
     -- As many as there were.
-    put-registers : length cs' ≡ n.cpus
-    put-registers = length-set cs p d ∙ (b.registers ∙ sym later.cpus)
+    put_registers : length cs' ≡ n.cpus
+    put_registers = length-set cs p d ∙ (b.registers ∙ sym later.cpus)
 
-    put-words : length own' ≡ 4096 * n.cpus
-    put-words = put-length own u m.cpus p (p * 4096 + 4096 - p * 4096) b.words small (long ∙ ap length lent_is ∙ part_length own m.cpus p b.words small) (omega arith) ∙ ap (λ z. 4096 * z) (sym later.cpus)
+    put_words : length own' ≡ 4096 * n.cpus
+    put_words = put-length own u m.cpus p (p * 4096 + 4096 - p * 4096) b.words small (long ∙ ap length lent_is ∙ part_length own m.cpus p b.words small) (omega arith) ∙ ap (λ z. 4096 * z) (sym later.cpus)
 
   -- Something begins.
-  pub turning-begin : {fs : List Event} {ps' : List Piece} {turn : Turn} {k : Ask} (d : Cpu) (u : List ℕ) → turn ≡ Begin k → Next turn p ps' m es fs → length ps' ≡ 8 → length u ≡ length lent → Begun k ps' lent d u →
+  pub turning_begin : {fs : List Event} {ps' : List Piece} {turn : Turn} {k : Ask} (d : Cpu) (u : List ℕ) → turn ≡ Begin k → Next turn p ps' m es fs → length ps' ≡ 8 → length u ≡ length lent → Begun k ps' lent d u →
       Between n fs (t + 1) (set cs p d) (put_mid (p * 4096) (p * 4096 + 4096 - p * 4096) own u) ps'
   unfolding Next
-  turning-begin {fs} {ps'} {turn} {k} d u e x eight long g = record
-      { known = known; registers = put-registers d u small long; words = put-words d u small long; pieces = eight }
+  turning_begin {fs} {ps'} {turn} {k} d u e x eight long g = record
+      { known = known; registers = put_registers d u small long; words = put_words d u small long; pieces = eight }
     where
       next : Next (Begin k) p ps' m es fs
       next = subst (λ z. Next z p ps' m es fs) e x
@@ -134,17 +134,17 @@ module _ {m : Mem} {es : List Event} {t : ℕ} {cs : List Cpu} {own : List ℕ} 
       known : Known n fs (t + 1) (cpus_of (set cs p d) (put_mid (p * 4096) (p * 4096 + 4096 - p * 4096) own u))
       known = subst (λ z. Known n fs z (cpus_of (set cs p d) (put_mid (p * 4096) (p * 4096 + 4096 - p * 4096) own u))) (sym (add-one t))
           (subst (Known n fs (suc t)) (sym (put_is d u small long))
-          (known-later (subst (λ z. Known n z t (set_cpu p d.work u (cpus_of cs own))) (sym next.2) begun)))
+          (known_later (subst (λ z. Known n z t (set_cpu p d.work u (cpus_of cs own))) (sym next.2) begun)))
         where
           begun : Known n (Asked p k (pieces_of k ps') ∷ es) t (set_cpu p d.work u (cpus_of cs own))
           begun = subst (λ w. Known n (Asked p k (pieces_of k ps') ∷ es) t (set_cpu p w u (cpus_of cs own))) (sym g.work)
               (subst (λ y. Known n (Asked p k (pieces_of k ps') ∷ es) t (set_cpu p (begin_work k) y (cpus_of cs own))) (sym (g.words ∙ ap (begin_words k ps') lent_is))
-              (known-begin _ _ _ _ p k ps' known-now (rw later.cpus small) (not-false (under p es) next.1) eight g.fits))
+              (known_begin _ _ _ _ p k ps' known_now (rw later.cpus small) (not-false (under p es) next.1) eight g.fits))
 
   -- A turn may be taken.
-  pub turning-ready : (fs : List Event) (ps' : List Piece) {turn : Turn} → turn ≡ Go → Next turn p ps' m es fs → suc t < 2 ^ 64 → (1 ≤ n.left) × Ready n p (get_or cs p idle_cpu) lent
+  pub turning_ready : (fs : List Event) (ps' : List Piece) {turn : Turn} → turn ≡ Go → Next turn p ps' m es fs → suc t < 2 ^ 64 → (1 ≤ n.left) × Ready n p (get_or cs p idle_cpu) lent
   unfolding Next
-  turning-ready fs ps' e x soon = (left, subst (Ready n p (get_or cs p idle_cpu)) (sym lent_is) (known-ready _ _ _ _ p known-now (rw later.cpus next.0) left (sym later.who) soon))
+  turning_ready fs ps' e x soon = (left, subst (Ready n p (get_or cs p idle_cpu)) (sym lent_is) (known_ready _ _ _ _ p known_now (rw later.cpus next.0) left (sym later.who) soon))
     where
       next : Next Go p ps' m es fs
       next = subst (λ z. Next z p ps' m es fs) e x
@@ -153,13 +153,13 @@ module _ {m : Mem} {es : List Event} {t : ℕ} {cs : List Cpu} {own : List ℕ} 
       left = omega (arith, later.left)
 
   -- It was taken.
-  pub turning-step : (fs : List Event) {ps' : List Piece} {turn : Turn} {r : Option Answer} {n' : Mem} (d : Cpu) (u : List ℕ) → turn ≡ Go → Next turn p ps' m es fs → suc t < 2 ^ 64 → length ps' ≡ 8 → length u ≡ length lent →
+  pub turning_step : (fs : List Event) {ps' : List Piece} {turn : Turn} {r : Option Answer} {n' : Mem} (d : Cpu) (u : List ℕ) → turn ≡ Go → Next turn p ps' m es fs → suc t < 2 ^ 64 → length ps' ≡ 8 → length u ≡ length lent →
       Stepped p n (get_or cs p idle_cpu) lent r n' d u → Turned' n' es (t + 1) (set cs p d) (put_mid (p * 4096) (p * 4096 + 4096 - p * 4096) own u) ps' p r
   unfolding Next
-  turning-step fs {ps'} {turn} {r} {n'} d u e x soon eight long st = record {
+  turning_step fs {ps'} {turn} {r} {n'} d u e x soon eight long st = record {
     after = after;
-    registers = put-registers d u small long ∙ sym size.0;
-    words = put-words d u small long ∙ ap (λ z. 4096 * z) (sym size.0);
+    registers = put_registers d u small long ∙ sym size.0;
+    words = put_words d u small long ∙ ap (λ z. 4096 * z) (sym size.0);
     pieces = eight;
   }
     where
@@ -173,14 +173,14 @@ module _ {m : Mem} {es : List Event} {t : ℕ} {cs : List Cpu} {own : List ℕ} 
       w = subst (λ o. Stepped p n (get_or cs p idle_cpu) o r n' d u) lent_is st
 
       size : (n'.cpus ≡ n.cpus) × (n'.blocks ≡ n.blocks)
-      size = did-sizes p (act p (get_or cs p idle_cpu).work (part_of p own)) n w.reply n' w.did
+      size = did_sizes p (act p (get_or cs p idle_cpu).work (part_of p own)) n w.reply n' w.did
 
       ok : WorkOk (get_or cs p idle_cpu).work (part_of p own)
-      ok = (known-ready _ _ _ _ p known-now (rw later.cpus small) (omega (arith, later.left)) (sym later.who) soon).ok
+      ok = (known_ready _ _ _ _ p known_now (rw later.cpus small) (omega (arith, later.left)) (sym later.who) soon).ok
 
       went : After n' es (suc t) (set_cpu p (work_after n.cpus (get_or cs p idle_cpu).work (part_of p own) w.reply) (words_after (get_or cs p idle_cpu).work (part_of p own) w.reply) (cpus_of cs own)) p
           (told_after n.cpus (get_or cs p idle_cpu).work (part_of p own) w.reply)
-      went = known_step _ _ _ _ _ p w.reply known-now (T_true (under p es) next.1) ok w.did
+      went = known_step _ _ _ _ _ p w.reply known_now (T_true (under p es) next.1) ok w.did
 
       after : After n' es (t + 1) (cpus_of (set cs p d) (put_mid (p * 4096) (p * 4096 + 4096 - p * 4096) own u)) p r
       after = subst (λ z. After n' es z (cpus_of (set cs p d) (put_mid (p * 4096) (p * 4096 + 4096 - p * 4096) own u)) p r) (sym (add-one t))
@@ -191,10 +191,10 @@ module _ {m : Mem} {es : List Event} {t : ℕ} {cs : List Cpu} {own : List ℕ} 
 
 module _ {m : Mem} {es : List Event} {t : ℕ} {cs : List Cpu} {own : List ℕ} {ps : List Piece} {p : ℕ} {r : Option Answer} (w : Turned' m es t cs own ps p r) where
   -- That it had a turn is explained.
-  pub turning-turned : (fs : List Event) → fs ≡ es → Explained m.cpus m.blocks (Turned p ∷ fs)
-  turning-turned fs e = subst (λ z. Explained m.cpus m.blocks (Turned p ∷ z)) (sym e) w.after.turned
+  pub turning_turned : (fs : List Event) → fs ≡ es → Explained m.cpus m.blocks (Turned p ∷ fs)
+  turning_turned fs e = subst (λ z. Explained m.cpus m.blocks (Turned p ∷ z)) (sym e) w.after.turned
 
   -- What it tells is.
-  pub turning-told : (a : Answer) (n : Mem) (fs : List Event) → r ≡ Some a → n ≡ m → fs ≡ Turned p ∷ es → Explained n.cpus n.blocks (Told p a ∷ fs)
-  turning-told a n fs e f h = subst (λ z. Explained z.cpus z.blocks (Told p a ∷ fs)) (sym f) (subst (λ z. Explained m.cpus m.blocks (Told p a ∷ z)) (sym h)
+  pub turning_told : (a : Answer) (n : Mem) (fs : List Event) → r ≡ Some a → n ≡ m → fs ≡ Turned p ∷ es → Explained n.cpus n.blocks (Told p a ∷ fs)
+  turning_told a n fs e f h = subst (λ z. Explained z.cpus z.blocks (Told p a ∷ fs)) (sym f) (subst (λ z. Explained m.cpus m.blocks (Told p a ∷ z)) (sym h)
       (subst (λ z. Explained m.cpus m.blocks (seen_of p z es)) e (w.after.known.state, w.after.known.run)))

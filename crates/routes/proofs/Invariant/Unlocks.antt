@@ -27,15 +27,15 @@ use Rattle.routes.specs.Invariant.Gathering.{ObtainFacts}
 use Rattle.routes.specs.Invariant.Retiring.{FinishFacts}
 use Rattle.routes.specs.Invariant.Writers.{Hall, PhaseFacts, Writer}
 use Rattle.routes.specs.Invariant.Inv.{Cpus, Inv, set_cpu}
-use Rattle.routes.proofs.Late.Fence.{fence-arrives, fence-empties, swap-none}
-use Rattle.routes.proofs.Run.Leads.{one-told-own}
-use Rattle.routes.proofs.Run.Steps.{now-own, now-other}
-use Rattle.routes.proofs.Invariant.Alike.{alike_same, alike-hidden}
+use Rattle.routes.proofs.Late.Fence.{fence_arrives_lem, fence_empties, swap_none}
+use Rattle.routes.proofs.Run.Leads.{one_told_own}
+use Rattle.routes.proofs.Run.Steps.{now_own, now_other}
+use Rattle.routes.proofs.Invariant.Alike.{alike_same, alike_hidden}
 use Rattle.routes.proofs.Invariant.Calm.{plain}
-use Rattle.routes.proofs.Invariant.PlainArrives.{plain-arrives}
-use Rattle.routes.proofs.Invariant.Steps.{lock_of, Turn, turn-told, steps-inv, holds-silent}
-use Rattle.routes.proofs.Invariant.Holding.{holder-facts, holder-holds, others-free, holder-small, holder-does, holder-room}
-use Rattle.routes.proofs.Invariant.WriterWord.{writer-core, writer-leaves}
+use Rattle.routes.proofs.Invariant.PlainArrives.{plain_arrives}
+use Rattle.routes.proofs.Invariant.Steps.{lock_of, Turn, turn_told, steps_inv, holds_silent}
+use Rattle.routes.proofs.Invariant.Holding.{holder_facts, holder_holds, others_free, holder_small, holder_does, holder_room}
+use Rattle.routes.proofs.Invariant.WriterWord.{writer_core, writer_leaves}
 
 -- an update is to be told a, and leaves nothing over but late stores to LIMBO_HEAD and LIMBO_TAIL
 pub record Parting (g : Ghost) (a : Answer) (n : Now) : Type 0 where
@@ -50,20 +50,20 @@ abbrev pub Parts : Job → Phase → Answer → Type 0
 Parts j ph a = (v : ℕ → ℕ → ℕ) (hall : Hall) (g : Ghost) (o : List ℕ) (rs : List Route) (n : Now) → PhaseFacts v hall g o rs n j ph → Parting g a n
 
 -- An update that is turned away is so.
-pub reject-parts : (j : Job) (why : Refusal) → Parts j (Check (Reject why)) (No (number_of why))
+pub reject_parts : (j : Job) (why : Refusal) → Parts j (Check (Reject why)) (No (number_of why))
 unfolding PhaseFacts CheckFacts plain
-reject-parts j why v hall g o rs n f = record { settled = f.1; row = ap plain f.0.has.row; loose = f.0.has.loose; fresh = f.0.has.fresh; whole = f.0.whole }
+reject_parts j why v hall g o rs n f = record { settled = f.1; row = ap plain f.0.has.row; loose = f.0.has.loose; fresh = f.0.has.fresh; whole = f.0.whole }
 
 -- So is one that there was no room for.
-pub full-parts : (j : Job) → Parts j (Obtain Full) FullAnswer
+pub full_parts : (j : Job) → Parts j (Obtain Full) FullAnswer
 unfolding PhaseFacts ObtainFacts seg plain
-full-parts j v hall g o rs n f = record
+full_parts j v hall g o rs n f = record
     { settled = f.0.full; row = ap plain f.0.has.row; loose = f.0.has.loose; fresh = f.0.has.fresh ∙ ap (λ z. seg (words_of o) 320 z) f.1; whole = f.0.whole }
 
 -- So is one that is done.
-pub done-parts : (j : Job) → Parts j (Finish Unlock) Done
+pub done_parts : (j : Job) → Parts j (Finish Unlock) Done
 unfolding PhaseFacts FinishFacts seg plain
-done-parts j v hall g o rs n f =
+done_parts j v hall g o rs n f =
     let z : j.got - j.used ≡ 0 = omega (arith, f.1) in
     let h = f.0.retires.has in
     record { settled = f.0.retires.done; row = ap plain h.row; loose = h.loose; fresh = h.fresh ∙ ap (λ i. seg (words_of o) (320 + j.used) i) z; whole = f.0.whole }
@@ -71,36 +71,36 @@ done-parts j v hall g o rs n f =
 module _ {m : Mem} {g : Ghost} {trail : ℕ → List ℕ} {s : State} {t : ℕ} {c : Cpus} {p cpus blocks : ℕ} {es : List Event}
     (i : Inv m (lock_of p true) g trail s t c) (none : m.late p ≡ []) (a : Answer) (f : Parting g a (s.now' p)) (r : Run cpus blocks es s) (y : T (young (s.now' p))) where
   -- The swap finds the lock as it was left.
-  swap-own : swapped p 0 0 (p + 1) 0 m ≡ set_word 0 0 0 m
-  swap-own = let z : eqb (m.val 0 0) (p + 1) ≡ true = eq-eqb _ _ (i.core.writer ∙ omega arith) in swap-none p 0 0 (p + 1) 0 m none ∙ rw z
+  swap_own : swapped p 0 0 (p + 1) 0 m ≡ set_word 0 0 0 m
+  swap_own = let z : eqb (m.val 0 0) (p + 1) ≡ true = eq-eqb _ _ (i.core.writer ∙ omega arith) in swap_none p 0 0 (p + 1) 0 m none ∙ rw z
 
   -- Where nothing is late, the lock is given up and the answer is told.
-  unlock-step : Turn (counted (swapped p 0 0 (p + 1) 0 m)) t (set_cpu p Idle (c.own p) c) cpus blocks (Told p a ∷ Turned p ∷ es) p s
+  unlock_step : Turn (counted (swapped p 0 0 (p + 1) 0 m)) t (set_cpu p Idle (c.own p) c) cpus blocks (Told p a ∷ Turned p ∷ es) p s
   unfolding holds announced loaded passed Does Writer
-  unlock-step = rw swap-own (turn-told (Change f.settled.0) a f.settled.1 (alike-hidden (alike_same p s)) r y f.settled.2 (steps-inv i (record {
-    core = writer-core i.core none 0 p false refl;
-    leaves = λ q. writer-leaves i.core none 0 (trail q) q (i.readers q).safe;
-    nows = λ q ne. now-other p q _ s.table (turned_at cpus p s) ne ∙ now-other p q _ s.table s ne;
-    leads = one-told-own p true (turned_at cpus p s) i.leads;
-    others = others-free i;
+  unlock_step = rw swap_own (turn_told (Change f.settled.0) a f.settled.1 (alike_hidden (alike_same p s)) r y f.settled.2 (steps_inv i (record {
+    core = writer_core i.core none 0 p false refl;
+    leaves = λ q. writer_leaves i.core none 0 (trail q) q (i.readers q).safe;
+    nows = λ q ne. now_other p q _ s.table (turned_at cpus p s) ne ∙ now_other p q _ s.table s ne;
+    leads = one_told_own p true (turned_at cpus p s) i.leads;
+    others = others_free i;
     mine = refl;
     cpus = refl;
-    small = holder-small i;
-    silent = (holds-silent (c.work p) (holder-holds i)).0;
+    small = holder_small i;
+    silent = (holds_silent (c.work p) (holder_holds i)).0;
     unloaded = refl;
-    does = ((holder-does i).0, now-own p _ s.table (turned_at cpus p s));
-    room = holder-room i;
+    does = ((holder_does i).0, now_own p _ s.table (turned_at cpus p s));
+    room = holder_room i;
     writer = record { has = record { row = refl; loose = f.loose; fresh = f.fresh }; whole = f.whole };
     scanned = λ q b l. absurd (omega arith);
   })))
 
 -- What is late arrives, and then the lock is given up.
-pub unlock-turn : {m : Mem} {g : Ghost} {trail : ℕ → List ℕ} {s : State} {t : ℕ} {c : Cpus} {p cpus blocks : ℕ} {es : List Event} (j : Job) (ph : Phase) (a : Answer) → Parts j ph a →
+pub unlock_turn : {m : Mem} {g : Ghost} {trail : ℕ → List ℕ} {s : State} {t : ℕ} {c : Cpus} {p cpus blocks : ℕ} {es : List Event} (j : Job) (ph : Phase) (a : Answer) → Parts j ph a →
     Inv m (lock_of p true) g trail s t c → Run cpus blocks es s → T (young (s.now' p)) → c.work p ≡ Updating j ph →
     Turn (counted (swapped p 0 0 (p + 1) 0 m)) t (set_cpu p Idle (c.own p) c) cpus blocks (Told p a ∷ Turned p ∷ es) p s
-unlock-turn {m} {g} {trail} {s} {t} {c} {p} {cpus} {blocks} {es} j ph a parts i r y e =
-    subst (λ n. Turn (counted n) t (set_cpu p Idle (c.own p) c) cpus blocks (Told p a ∷ Turned p ∷ es) p s) (swap-none p 0 0 (p + 1) 0 (fenced p m) (fence-empties p m))
-    (unlock-step (plain-arrives (fence-arrives p m) f.row i) (fence-empties p m) a f r y)
+unlock_turn {m} {g} {trail} {s} {t} {c} {p} {cpus} {blocks} {es} j ph a parts i r y e =
+    subst (λ n. Turn (counted n) t (set_cpu p Idle (c.own p) c) cpus blocks (Told p a ∷ Turned p ∷ es) p s) (swap_none p 0 0 (p + 1) 0 (fenced p m) (fence_empties p m))
+    (unlock_step (plain_arrives (fence_arrives_lem p m) f.row i) (fence_empties p m) a f r y)
   where
     f : Parting g a (s.now' p)
-    f = parts _ _ g (c.own p) s.table (s.now' p) (holder-facts i j ph e)
+    f = parts _ _ g (c.own p) s.table (s.now' p) (holder_facts i j ph e)

@@ -3,31 +3,31 @@ use Rattle.std.proofs.Common.{◌≡◌, ℕ, zero, suc, ◌+◌, ◌-◌, ◌*�
 use lib.Pow.{shl-shr}
 use Rattle.std.proofs.lemmas.Bool.{eqb-true}
 use Rattle.words.specs.Address.{nib}
-use Rattle.words.proofs.Addresses.{nib-small}
+use Rattle.words.proofs.Addresses.{nib_small}
 use Rattle.routes.specs.Routes.{fits}
 use Rattle.routes.specs.Table.Lookups.{masked}
 use Rattle.routes.specs.Keys.Keys.{nibs, Nibbles}
 use Rattle.routes.proofs.Table.Masks.{masked-fits}
 
 -- Above the last level a nibble is four of the address's bits.
-pub nib-is : (d a : ℕ) → d < 8 → nib d a ≡ a / 2 ^ (28 - 4 * d) % 16
+pub nib_is : (d a : ℕ) → d < 8 → nib d a ≡ a / 2 ^ (28 - 4 * d) % 16
 unfolding nib
-nib-is d a h =
+nib_is d a h =
     let s : 32 - 4 * d ≡ 4 + (28 - 4 * d) = omega arith in
     rw (s, ← shr-shr (a * 16) 4 (28 - 4 * d), shl-shr a 4)
 
 -- The bits down to a level are those above it and a nibble more.
-pub bits-more : (d b : ℕ) → d < 8 → b / 2 ^ (28 - 4 * d) ≡ 16 * (b / 2 ^ (32 - 4 * d)) + nib d b
-bits-more d b h =
+pub bits_more : (d b : ℕ) → d < 8 → b / 2 ^ (28 - 4 * d) ≡ 16 * (b / 2 ^ (32 - 4 * d)) + nib d b
+bits_more d b h =
     let s : 28 - 4 * d + 4 ≡ 32 - 4 * d = omega arith in
     let e : b / 2 ^ (28 - 4 * d) / 16 ≡ b / 2 ^ (32 - 4 * d) = rw s at (shr-shr b (28 - 4 * d) 4) in
-    omega (arith, nib-is d b h)
+    omega (arith, nib_is d b h)
 
 -- Nibbles of an address are nibbles.
-pub nibs-ok : (d k a : ℕ) → Nibbles (nibs d k a)
+pub nibs_ok : (d k a : ℕ) → Nibbles (nibs d k a)
 unfolding Nibbles nibs
-nibs-ok d zero a = tt
-nibs-ok d (suc k) a = (nib-small d a, nibs-ok (suc d) k a)
+nibs_ok d zero a = tt
+nibs_ok d (suc k) a = (nib_small d a, nibs_ok (suc d) k a)
 
 -- There are k of them.
 pub nibs-length : (d k a : ℕ) → length (nibs d k a) ≡ k
@@ -45,7 +45,7 @@ pub fits-nib : (len bits a d : ℕ) → fits len bits a ≡ true → 4 * d + 4 �
 fits-nib len bits a d f h l =
     let e : a / 2 ^ (32 - len) ≡ bits / 2 ^ (32 - len) = eqb-true _ _ f in
     let p = bits_above bits a (32 - len) (28 - 4 * d) (sym e) (omega arith) in
-    rw (nib-is d bits (omega arith), nib-is d a (omega arith), p)
+    rw (nib_is d bits (omega arith), nib_is d a (omega arith), p)
 
 -- So an address's own prefix has the same way, as far as it goes.
 pub nibs-masked : (len a d k : ℕ) → 4 * (d + k) ≤ len → len ≤ 32 → nibs d k (masked len a) ≡ nibs d k a
@@ -57,12 +57,12 @@ nibs-masked len a d (suc k) h l =
     cc
 
 -- Equal nibbles behind equal bits make equal bits.
-pub nibs-bits : (k d b c : ℕ) → d + k ≤ 8 → nibs d k b ≡ nibs d k c → b / 2 ^ (32 - 4 * d) ≡ c / 2 ^ (32 - 4 * d) → b / 2 ^ (32 - 4 * (d + k)) ≡ c / 2 ^ (32 - 4 * (d + k))
+pub nibs_bits : (k d b c : ℕ) → d + k ≤ 8 → nibs d k b ≡ nibs d k c → b / 2 ^ (32 - 4 * d) ≡ c / 2 ^ (32 - 4 * d) → b / 2 ^ (32 - 4 * (d + k)) ≡ c / 2 ^ (32 - 4 * (d + k))
 unfolding nibs
-nibs-bits zero d b c h e i = rw (add-zero d) i
-nibs-bits (suc k) d b c h e i =
+nibs_bits zero d b c h e i = rw (add-zero d) i
+nibs_bits (suc k) d b c h e i =
     let n : nib d b ≡ nib d c = cc in
     let t : nibs (suc d) k b ≡ nibs (suc d) k c = cc in
     let s : 32 - 4 * suc d ≡ 28 - 4 * d = omega arith in
-    let j : b / 2 ^ (32 - 4 * suc d) ≡ c / 2 ^ (32 - 4 * suc d) = rw s (omega (arith, bits-more d b (omega arith), bits-more d c (omega arith))) in
-    rw (add-suc d k, ← suc-add d k) (nibs-bits k (suc d) b c (omega arith) t j)
+    let j : b / 2 ^ (32 - 4 * suc d) ≡ c / 2 ^ (32 - 4 * suc d) = rw s (omega (arith, bits_more d b (omega arith), bits_more d c (omega arith))) in
+    rw (add-suc d k, ← suc-add d k) (nibs_bits k (suc d) b c (omega arith) t j)

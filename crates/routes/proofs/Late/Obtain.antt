@@ -14,9 +14,9 @@ pub record Got (m : Mem) (b : ℕ) (n : Mem) : Type 0 where
   pub arrives : Arrives (counted (obtained b words m)) n
 
 -- Some block is one that was free.
-pub obtains-some : {m : Mem} {b : ℕ} {n : Mem} → Obtains m (Some b) n → Got m b n
-obtains-some (got b v n inside free same small a) = record { words = v; inside = inside; free = free; same = same; small = small; arrives = a }
+pub obtains_some : {m : Mem} {b : ℕ} {n : Mem} → Obtains m (Some b) n → Got m b n
+obtains_some (got b v n inside free same small a) = record { words = v; inside = inside; free = free; same = same; small = small; arrives = a }
 
 -- None is got only if all are held.
-pub obtains-none : {m n : Mem} → Obtains m None n → ((b : ℕ) → b < m.blocks → m.held b ≡ true) × Arrives (counted m) n
-obtains-none {m} (out n all a) = ((λ b l. T_true (m.held b) (all b l)), a)
+pub obtains_none : {m n : Mem} → Obtains m None n → ((b : ℕ) → b < m.blocks → m.held b ≡ true) × Arrives (counted m) n
+obtains_none {m} (out n all a) = ((λ b l. T_true (m.held b) (all b l)), a)

@@ -5,37 +5,37 @@ use Rattle.std.proofs.lemmas.Bool.{cases_Bool, cases_lt, ltb-true, both_ways, ne
 use Rattle.routes.specs.Routes.{Event, Quiet, State, Run, busy, is_question, leader, must_wait, young, under}
 use Rattle.routes.specs.Run.Nows.{is_change, age_of, limit_of, in_list}
 use Rattle.routes.specs.Run.Steps.{turned_at}
-use Rattle.routes.proofs.Run.Nows.{quiet_is, young-is, kind-busy}
-use Rattle.routes.proofs.Run.Leads.{some-leader}
-use Rattle.routes.proofs.Run.Steps.{turned-kind, settled-kind, turned-age, settled-age, turned-waits, told-waits}
+use Rattle.routes.proofs.Run.Nows.{quiet_is, young_is, kind_busy}
+use Rattle.routes.proofs.Run.Leads.{some_leader}
+use Rattle.routes.proofs.Run.Steps.{turned_kind, settled_kind, turned_age, settled_age, turned_waits, told_waits}
 use Rattle.routes.proofs.Run.Keeps.{Kept, always}
 
 -- Who is young gets no older than it may by a turn.
-aged-turned : (cpus p q : ℕ) (s : State) → young (s.now' p) ≡ true → age_of (s.now' q) ≤ limit_of (s.now' q) → age_of ((turned_at cpus p s).now' q) ≤ limit_of ((turned_at cpus p s).now' q)
-aged-turned cpus p q s y h =
-    let below : age_of (s.now' p) < limit_of (s.now' p) = ltb-true _ _ (sym (young-is (s.now' p)) ∙ y) in
-    rw (turned-age cpus p q s, (turned-kind cpus p q s).limits) (elim (eqb_tells q p) [
+aged_turned : (cpus p q : ℕ) (s : State) → young (s.now' p) ≡ true → age_of (s.now' q) ≤ limit_of (s.now' q) → age_of ((turned_at cpus p s).now' q) ≤ limit_of ((turned_at cpus p s).now' q)
+aged_turned cpus p q s y h =
+    let below : age_of (s.now' p) < limit_of (s.now' p) = ltb-true _ _ (sym (young_is (s.now' p)) ∙ y) in
+    rw (turned_age cpus p q s, (turned_kind cpus p q s).limits) (elim (eqb_tells q p) [
       | inl e ↦ rw e.1 (grind (arith, nat_tests))
       | inr e ↦ rw e.0 (omega arith)
     ])
 
 -- Who is waited for after a turn was so before, or asks.
-waits-turned : (cpus p w q : ℕ) (s : State) → (in_list q (s.waits w) ≡ true → is_question (s.now' q) ≡ true) → in_list q ((turned_at cpus p s).waits w) ≡ true → is_question (s.now' q) ≡ true
-waits-turned cpus p w q s h f = elim (cases_Bool (eqb w p && not (must_wait cpus p s))) [
-  | inl e ↦ (and_parts _ _ (rw e at (sym (turned-waits cpus p w q s) ∙ f))).1
-  | inr e ↦ h (rw e at (sym (turned-waits cpus p w q s) ∙ f))
+waits_turned : (cpus p w q : ℕ) (s : State) → (in_list q (s.waits w) ≡ true → is_question (s.now' q) ≡ true) → in_list q ((turned_at cpus p s).waits w) ≡ true → is_question (s.now' q) ≡ true
+waits_turned cpus p w q s h f = elim (cases_Bool (eqb w p && not (must_wait cpus p s))) [
+  | inl e ↦ (and_parts _ _ (rw e at (sym (turned_waits cpus p w q s) ∙ f))).1
+  | inr e ↦ h (rw e at (sym (turned_waits cpus p w q s) ∙ f))
 ]
 
 module _ (cpus blocks : ℕ) where
   -- What was seen says what is under way: each step keeps that.
-  under-kept : Kept cpus blocks (λ es s. (q : ℕ) → under q es ≡ busy (s.now' q))
+  under_kept : Kept cpus blocks (λ es s. (q : ℕ) → under q es ≡ busy (s.now' q))
   unfolding under busy
-  under-kept = record {
+  under_kept = record {
     start = λ q. refl;
     ask = λ es s p k ps r h l e q. elim (eqb_tells q p) [ inl i ↦ rw i.0 refl | inr i ↦ rw i.0 (h q) ];
-    settle = λ es s p k ps g a t r h e q. h q ∙ sym (kind-busy (settled-kind p q k ps a g t s e));
+    settle = λ es s p k ps g a t r h e q. h q ∙ sym (kind_busy (settled_kind p q k ps a g t s e));
     lead' = λ es s p r h c l. h;
-    turn = λ es s p r h y q. h q ∙ sym (kind-busy (turned-kind cpus p q s));
+    turn = λ es s p r h y q. h q ∙ sym (kind_busy (turned_kind cpus p q s));
     tell = λ es s p k a g r h e q. elim (eqb_tells q p) [ inl i ↦ rw i.0 refl | inr i ↦ rw i.0 (h q) ];
   }
 
@@ -45,36 +45,36 @@ module _ (cpus blocks : ℕ) where
   outside_kept = record {
     start = λ q o. refl;
     ask = λ es s p k ps r h l e q o. rw (ne_eqb q p (λ i. omega arith)) (h q o);
-    settle = λ es s p k ps g a t r h e q o. kind-busy (settled-kind p q k ps a g t s e) ∙ h q o;
+    settle = λ es s p k ps g a t r h e q o. kind_busy (settled_kind p q k ps a g t s e) ∙ h q o;
     lead' = λ es s p r h c l. h;
-    turn = λ es s p r h y q o. kind-busy (turned-kind cpus p q s) ∙ h q o;
+    turn = λ es s p r h y q o. kind_busy (turned_kind cpus p q s) ∙ h q o;
     tell = λ es s p k a g r h e q o. elim (eqb_tells q p) [ inl i ↦ rw i.0 refl | inr i ↦ rw i.0 (h q o) ];
   }
 
   -- Nothing is older than it may be: each step keeps that.
-  aged-kept : Kept cpus blocks (λ es s. (q : ℕ) → age_of (s.now' q) ≤ limit_of (s.now' q))
+  aged_kept : Kept cpus blocks (λ es s. (q : ℕ) → age_of (s.now' q) ≤ limit_of (s.now' q))
   unfolding age_of limit_of
-  aged-kept = record {
+  aged_kept = record {
     start = λ q. omega arith;
     ask = λ es s p k ps r h l e q. elim (eqb_tells q p) [ inl i ↦ rw i.0 (omega arith) | inr i ↦ rw i.0 (h q) ];
-    settle = λ es s p k ps g a t r h e q. rw (settled-age p q k ps a g t s e, (settled-kind p q k ps a g t s e).limits) (h q);
+    settle = λ es s p k ps g a t r h e q. rw (settled_age p q k ps a g t s e, (settled_kind p q k ps a g t s e).limits) (h q);
     lead' = λ es s p r h c l. h;
-    turn = λ es s p r h y q. aged-turned cpus p q s y (h q);
+    turn = λ es s p r h y q. aged_turned cpus p q s y (h q);
     tell = λ es s p k a g r h e q. elim (eqb_tells q p) [ inl i ↦ rw i.0 (omega arith) | inr i ↦ rw i.0 (h q) ];
   }
 
   -- Who leads has a change under way: each step keeps that.
-  leads-kept : Kept cpus blocks (λ es s. (q : ℕ) → s.lead q ≡ true → is_change (s.now' q) ≡ true)
+  leads_kept : Kept cpus blocks (λ es s. (q : ℕ) → s.lead q ≡ true → is_change (s.now' q) ≡ true)
   unfolding is_change
-  leads-kept = record {
+  leads_kept = record {
     start = λ q f. cc;
     ask = λ es s p k ps r h l e q f. elim (eqb_tells q p) [
       | inl i ↦ cc (h q f, ap s.now' i.1 ∙ e)
       | inr i ↦ rw i.0 (h q f)
     ];
-    settle = λ es s p k ps g a t r h e q f. (settled-kind p q k ps a g t s e).change ∙ h q f;
+    settle = λ es s p k ps g a t r h e q f. (settled_kind p q k ps a g t s e).change ∙ h q f;
     lead' = λ es s p r h c l q f. elim (eqb_tells q p) [ inl i ↦ rw i.1 c | inr i ↦ h q (rw i.0 at f) ];
-    turn = λ es s p r h y q f. (turned-kind cpus p q s).change ∙ h q f;
+    turn = λ es s p r h y q f. (turned_kind cpus p q s).change ∙ h q f;
     tell = λ es s p k a g r h e q f. elim (eqb_tells q p) [
       | inl i ↦ (let z : false ≡ true = rw i.0 at f in cc)
       | inr i ↦ rw i.0 (h q (rw i.0 at f))
@@ -90,45 +90,45 @@ module _ (cpus blocks : ℕ) where
       | inl i ↦ cc (h w q f, ap s.now' i.1 ∙ e)
       | inr i ↦ rw i.0 (h w q f)
     ];
-    settle = λ es s p k ps g a t r h e w q f. (settled-kind p q k ps a g t s e).question ∙ h w q f;
+    settle = λ es s p k ps g a t r h e w q f. (settled_kind p q k ps a g t s e).question ∙ h w q f;
     lead' = λ es s p r h c l. h;
-    turn = λ es s p r h y w q f. (turned-kind cpus p q s).question ∙ waits-turned cpus p w q s (h w q) f;
-    tell = λ es s p k a g r h e w q f. (let b = and_parts _ _ (sym (told-waits p w q s) ∙ f) in rw (not-true (eqb q p) b.0) (h w q b.1));
+    turn = λ es s p r h y w q f. (turned_kind cpus p q s).question ∙ waits_turned cpus p w q s (h w q) f;
+    tell = λ es s p k a g r h e w q f. (let b = and_parts _ _ (sym (told_waits p w q s) ∙ f) in rw (not-true (eqb q p) b.0) (h w q b.1));
   }
 
 module _ {cpus blocks : ℕ} {es : List Event} {s : State} (r : Run cpus blocks es s) where
   -- Under way, by what was seen, is what is not quiet.
-  pub under-is : (p : ℕ) → under p es ≡ busy (s.now' p)
-  under-is = always cpus blocks (λ es s. (q : ℕ) → under q es ≡ busy (s.now' q)) (under-kept cpus blocks) r
+  pub under_is : (p : ℕ) → under p es ≡ busy (s.now' p)
+  under_is = always cpus blocks (λ es s. (q : ℕ) → under q es ≡ busy (s.now' q)) (under_kept cpus blocks) r
 
   -- Past the last processor all is quiet.
-  pub outside-quiet : (p : ℕ) → cpus ≤ p → s.now' p ≡ Quiet
-  outside-quiet p o = quiet_is (s.now' p) (always cpus blocks (λ es s. (q : ℕ) → cpus ≤ q → busy (s.now' q) ≡ false) (outside_kept cpus blocks) r p o)
+  pub outside_quiet : (p : ℕ) → cpus ≤ p → s.now' p ≡ Quiet
+  outside_quiet p o = quiet_is (s.now' p) (always cpus blocks (λ es s. (q : ℕ) → cpus ≤ q → busy (s.now' q) ≡ false) (outside_kept cpus blocks) r p o)
 
   -- Nothing is older than it may be.
-  pub none-too-old : (p : ℕ) → age_of (s.now' p) ≤ limit_of (s.now' p)
-  none-too-old = always cpus blocks (λ es s. (q : ℕ) → age_of (s.now' q) ≤ limit_of (s.now' q)) (aged-kept cpus blocks) r
+  pub none_too_old : (p : ℕ) → age_of (s.now' p) ≤ limit_of (s.now' p)
+  none_too_old = always cpus blocks (λ es s. (q : ℕ) → age_of (s.now' q) ≤ limit_of (s.now' q)) (aged_kept cpus blocks) r
 
   -- Who leads has a change under way.
-  pub leader-changes : (p : ℕ) → s.lead p ≡ true → is_change (s.now' p) ≡ true
-  leader-changes = always cpus blocks (λ es s. (q : ℕ) → s.lead q ≡ true → is_change (s.now' q) ≡ true) (leads-kept cpus blocks) r
+  pub leader_changes : (p : ℕ) → s.lead p ≡ true → is_change (s.now' p) ≡ true
+  leader_changes = always cpus blocks (λ es s. (q : ℕ) → s.lead q ≡ true → is_change (s.now' q) ≡ true) (leads_kept cpus blocks) r
 
   -- Who is waited for has a question under way.
-  pub waited-asks : (p q : ℕ) → in_list q (s.waits p) ≡ true → is_question (s.now' q) ≡ true
-  waited-asks = always cpus blocks (λ es s. (p q : ℕ) → in_list q (s.waits p) ≡ true → is_question (s.now' q) ≡ true) (waits_kept cpus blocks) r
+  pub waited_asks : (p q : ℕ) → in_list q (s.waits p) ≡ true → is_question (s.now' q) ≡ true
+  waited_asks = always cpus blocks (λ es s. (p q : ℕ) → in_list q (s.waits p) ≡ true → is_question (s.now' q) ≡ true) (waits_kept cpus blocks) r
 
   -- Who leads is a processor.
-  pub leader-small : (p : ℕ) → s.lead p ≡ true → p < cpus
+  pub leader_small : (p : ℕ) → s.lead p ≡ true → p < cpus
   unfolding is_change
-  leader-small p f = elim (cases_lt p cpus) [
+  leader_small p f = elim (cases_lt p cpus) [
     | inl l ↦ l
-    | inr o ↦ (let z : ◌≡◌ {A = ℕ} 0 1 = cc (leader-changes p f, outside-quiet p o) in absurd (omega arith))
+    | inr o ↦ (let z : ◌≡◌ {A = ℕ} 0 1 = cc (leader_changes p f, outside_quiet p o) in absurd (omega arith))
   ]
 
   -- Where no other leads, nobody else does.
   no_other : (p q : ℕ) → leader cpus p s ≡ false → (q ≡ p → ⊥) → s.lead q ≡ false
   no_other p q none ne = elim (cases_Bool (s.lead q)) [
-    | inl f ↦ absurd (both_ways _ none (some-leader cpus p q s (leader-small q f) ne f))
+    | inl f ↦ absurd (both_ways _ none (some_leader cpus p q s (leader_small q f) ne f))
     | inr f ↦ f
   ]
 
@@ -144,5 +144,5 @@ one_kept cpus blocks = record {
 }
 
 -- At most one leads.
-pub one-leads : {cpus blocks : ℕ} {es : List Event} {s : State} → Run cpus blocks es s → (p q : ℕ) → s.lead p ≡ true → s.lead q ≡ true → q ≡ p
-one-leads {cpus} {blocks} r = always cpus blocks (λ es s. (p q : ℕ) → s.lead p ≡ true → s.lead q ≡ true → q ≡ p) (one_kept cpus blocks) r
+pub one_leads_lem : {cpus blocks : ℕ} {es : List Event} {s : State} → Run cpus blocks es s → (p q : ℕ) → s.lead p ≡ true → s.lead q ≡ true → q ≡ p
+one_leads_lem {cpus} {blocks} r = always cpus blocks (λ es s. (p q : ℕ) → s.lead p ≡ true → s.lead q ≡ true → q ≡ p) (one_kept cpus blocks) r

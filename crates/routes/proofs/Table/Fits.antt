@@ -7,7 +7,7 @@ use Rattle.routes.specs.declared.Answer.TheVariants.{Found, Nothing}
 use Rattle.routes.specs.declared.Piece.{Piece}
 use Rattle.routes.specs.Routes.{Route, fits, longest, find, without, Table, piece, pieces}
 use Rattle.routes.specs.Promise.{OnlyWhatFits}
-use Rattle.routes.proofs.Table.Pieces.{piece-table, pieces-cons, changed-table}
+use Rattle.routes.proofs.Table.Pieces.{piece_table, pieces_cons, changed_table}
 
 -- A route that does not fit may be left out.
 longest-without : (a l b : ℕ) → fits l b a ≡ false → (rs : List Route) (best : Answer) (n : ℕ) → longest a (without l b rs) best n ≡ longest a rs best n
@@ -23,7 +23,7 @@ piece-find : (a : ℕ) (p : Piece) (rs qs : List Route) → fits p.len p.bits a 
 unfolding longest
 piece-find a p rs qs ne e =
     let w = longest-without a p.len p.bits ne rs Nothing 0 in
-    elim (piece-table p rs qs e) [
+    elim (piece_table p rs qs e) [
       | inl i ↦ rw (i.1, ne) w
       | inr i ↦ rw i.2 w
     ]
@@ -33,9 +33,9 @@ pieces-find : (a : ℕ) (ps : List Piece) (rs qs : List Route) → pieces ps (Ta
 unfolding pieces
 pieces-find a [] rs qs e ne = cc
 pieces-find a (p ∷ ps) rs qs e ne =
-    let c = pieces-cons p ps rs qs e in
+    let c = pieces_cons p ps rs qs e in
     pieces-find a ps c.0 qs c.2 (λ q m. ne q (Memᴰ.tail m)) ∙ piece-find a p rs c.0 (ne p (Memᴰ.head refl)) c.1
 
 -- So a change shows only where one of its pieces fits.
-pub only-what-fits : OnlyWhatFits
-only-what-fits ps rs qs a e ne = pieces-find a ps rs qs (changed-table ps rs qs e) ne
+pub only_what_fits : OnlyWhatFits
+only_what_fits ps rs qs a e ne = pieces-find a ps rs qs (changed_table ps rs qs e) ne

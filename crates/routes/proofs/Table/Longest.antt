@@ -83,8 +83,8 @@ outcome a (r ∷ rs) best n = elim (cases_Bool (fitting a r && leb n r.len)) [
     })
 
 -- So `find` finds the longest.
-pub finds-longest : FindsLongest
-finds-longest a rs = (some, nothing)
+pub finds_longest_lem : FindsLongest
+finds_longest_lem a rs = (some, nothing)
   where
     some : (n t : ℕ) → find a rs ≡ Found n t → (r : Route) × Memᴰ r rs × (r.len ≡ n) × (r.tells ≡ t) × T (fitting a r) × ((q : Route) → Memᴰ q rs → T (fitting a q) → q.len ≤ n)
     some n t e = elim (outcome a rs Nothing 0) [

@@ -9,10 +9,10 @@ abbrev pub put_in : Piece → List Route → List Route
 put_in p rs = record { len = p.len; bits = p.bits; tells = p.tells } ∷ without p.len p.bits rs
 
 -- A piece that is not turned away puts a route in, or takes out one that is there.
-pub piece-table : (p : Piece) (rs qs : List Route) → piece p rs ≡ Table qs →
+pub piece_table : (p : Piece) (rs qs : List Route) → piece p rs ≡ Table qs →
     ((p.puts ≡ true) × (qs ≡ put_in p rs)) ⊎ ((p.puts ≡ false) × (has p.len p.bits rs ≡ true) × (qs ≡ without p.len p.bits rs))
 unfolding piece
-piece-table p rs qs e = go (clean p.len p.bits) p.puts (has p.len p.bits rs) e
+piece_table p rs qs e = go (clean p.len p.bits) p.puts (has p.len p.bits rs) e
   where
     go : (c u h : Bool) → cond (not c) (Wrong 2) (cond u (Table (put_in p rs)) (cond h (Table (without p.len p.bits rs)) (Wrong 3))) ≡ Table qs →
         ((u ≡ true) × (qs ≡ put_in p rs)) ⊎ ((u ≡ false) × (h ≡ true) × (qs ≡ without p.len p.bits rs))
@@ -27,20 +27,20 @@ unfolding piece
 piece-clean p rs qs e = elim (cases_Bool (clean p.len p.bits)) [ inl c ↦ c | inr c ↦ cc (rw c at e) ]
 
 -- Once a piece is turned away, the change is.
-pub pieces-wrong : (ps : List Piece) (k : ℕ) → pieces ps (Wrong k) ≡ Wrong k
+pub pieces_wrong : (ps : List Piece) (k : ℕ) → pieces ps (Wrong k) ≡ Wrong k
 unfolding pieces
-pieces-wrong [] k = refl
-pieces-wrong (p ∷ ps) k = refl
+pieces_wrong [] k = refl
+pieces_wrong (p ∷ ps) k = refl
 
 -- Pieces that come to a table came through a table after the first.
-pub pieces-cons : (p : Piece) (ps : List Piece) (rs qs : List Route) → pieces (p ∷ ps) (Table rs) ≡ Table qs → (ts : List Route) × (piece p rs ≡ Table ts) × (pieces ps (Table ts) ≡ Table qs)
+pub pieces_cons : (p : Piece) (ps : List Piece) (rs qs : List Route) → pieces (p ∷ ps) (Table rs) ≡ Table qs → (ts : List Route) × (piece p rs ≡ Table ts) × (pieces ps (Table ts) ≡ Table qs)
 unfolding pieces
-pieces-cons p ps rs qs e = go (piece p rs) refl
+pieces_cons p ps rs qs e = go (piece p rs) refl
   where
     go : (t : After) → piece p rs ≡ t → (ts : List Route) × (piece p rs ≡ Table ts) × (pieces ps (Table ts) ≡ Table qs)
     go (Table ts) w = (ts, w, rw (← w) e)
-    go (Wrong k) w = (let z : ◌≡◌ {A = ℕ} 0 1 = cc (pieces-wrong ps k) in absurd (omega arith))
+    go (Wrong k) w = (let z : ◌≡◌ {A = ℕ} 0 1 = cc (pieces_wrong ps k) in absurd (omega arith))
 
 -- A change that comes to a table is its pieces, one after the other.
-pub changed-table : (ps : List Piece) (rs qs : List Route) → changed ps rs ≡ Table qs → pieces ps (Table rs) ≡ Table qs
-changed-table ps rs qs e = elim (cases_Bool (eqb (length ps) 0 || ltb 8 (length ps))) [ inl w ↦ cc (rw w at e) | inr w ↦ rw w at e ]
+pub changed_table : (ps : List Piece) (rs qs : List Route) → changed ps rs ≡ Table qs → pieces ps (Table rs) ≡ Table qs
+changed_table ps rs qs e = elim (cases_Bool (eqb (length ps) 0 || ltb 8 (length ps))) [ inl w ↦ cc (rw w at e) | inr w ↦ rw w at e ]

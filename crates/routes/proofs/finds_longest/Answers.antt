@@ -1,5 +1,5 @@
 use Rattle.routes.proofs.finds_longest.Goals as goal
-use Rattle.routes.proofs.Table.Longest.{finds-longest}
+use Rattle.routes.proofs.Table.Longest.{finds_longest_lem}
 
 pub returns : goal.returns
-returns c = finds-longest
+returns c = finds_longest_lem

@@ -1,5 +1,5 @@
 use Rattle.routes.proofs.oldest_first.Goals as goal
-use Rattle.routes.proofs.Late.Oldest.{oldest-first}
+use Rattle.routes.proofs.Late.Oldest.{oldest_first_lem}
 
 pub returns : goal.returns
-returns c = oldest-first
+returns c = oldest_first_lem

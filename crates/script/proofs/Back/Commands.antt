@@ -17,107 +17,107 @@ use Rattle.script.specs.Numbers.{address_of}
 use Rattle.script.specs.Pieces.{blank_piece, change_of}
 use Rattle.script.specs.Reading.{processor_of, count_of, seed_of}
 use Rattle.script.specs.Shown.{after, sentence, hexadecimal, shown_piece, shown_pieces, shown, FitsPiece, FitsChange, Fits, ReadsBack}
-use Rattle.script.proofs.Back.Numerals.{decimal-plain, decimal-digits, decimal-below, decimal-other, hexadecimal-plain, address-back}
-use Rattle.script.proofs.Back.Pieces.{pieces-all, pieces-back, piece-stops, asks-change}
-use Rattle.script.proofs.Back.Plain.{Plain, reads, stops, all_after, all-high}
-use Rattle.script.proofs.Back.Sentences.{reads-after, one-back, two_back}
+use Rattle.script.proofs.Back.Numerals.{decimal_plain, decimal_digits, decimal_below, decimal_other, hexadecimal_plain, address_back}
+use Rattle.script.proofs.Back.Pieces.{pieces_all, pieces_back, piece_stops, asks_change}
+use Rattle.script.proofs.Back.Plain.{Plain, reads, stops, all_after, all_high}
+use Rattle.script.proofs.Back.Sentences.{reads_after, one_back, two_back}
 
 -- A text that has no carriage return loses none.
-chomped-same : (t : List ℕ) → All (λ b. 13 < b) t → chomped t ≡ t
-chomped-same [] h = refl
-chomped-same (c ∷ cs) h =
+chomped_same : (t : List ℕ) → All (λ b. 13 < b) t → chomped t ≡ t
+chomped_same [] h = refl
+chomped_same (c ∷ cs) h =
     let last = All-get_or (λ b. 13 < b) (c ∷ cs) (length (c ∷ cs) - 1) 0 (omega arith) h in
     rw (ne_eqb (get_or (c ∷ cs) (length (c ∷ cs) - 1) 0) 13 (omega arith)) refl
 
 -- A line is its first word and a command after it.
-line-back : (cpus : ℕ) (w t : List ℕ) (c : Command) → Plain w → All (λ b. 13 < b) t → front_of Letter t ≡ 0 → passed w ≡ false → command_of cpus w t ≡ Ok c → line_of cpus (w ++ t) ≡ Ok (line.Command c)
-line-back cpus w t c p sound ends other h =
+line_back : (cpus : ℕ) (w t : List ℕ) (c : Command) → Plain w → All (λ b. 13 < b) t → front_of Letter t ≡ 0 → passed w ≡ false → command_of cpus w t ≡ Ok c → line_of cpus (w ++ t) ≡ Ok (line.Command c)
+line_back cpus w t c p sound ends other h =
     let r = reads w t p ends in
     let high = All-weaker (λ b. 44 < b) (λ b. 13 < b) (λ x l. omega arith) w p.high in
-    ap (line_from cpus) (chomped-same (w ++ t) (All-append (λ b. 13 < b) w t high sound)) ∙ rw (r.0, r.1, other, h) refl
+    ap (line_from cpus) (chomped_same (w ++ t) (All-append (λ b. 13 < b) w t high sound)) ∙ rw (r.0, r.1, other, h) refl
 
 -- The same of words with blanks between them.
-sentence-back : (cpus : ℕ) (w : List ℕ) (ws : List (List ℕ)) (c : Command) → Plain w → All Plain ws → passed w ≡ false → command_of cpus w (after 32 ws) ≡ Ok c → line_of cpus (sentence (w ∷ ws)) ≡ Ok (line.Command c)
-sentence-back cpus w ws c p ps other h =
-    line-back cpus w (after 32 ws) c p (all_after (λ b. 13 < b) 32 ws (lit< tt) (all-high (λ b. 13 < b) (λ x l. omega arith) ws ps)) (stops ws) other h
+sentence_back : (cpus : ℕ) (w : List ℕ) (ws : List (List ℕ)) (c : Command) → Plain w → All Plain ws → passed w ≡ false → command_of cpus w (after 32 ws) ≡ Ok c → line_of cpus (sentence (w ∷ ws)) ≡ Ok (line.Command c)
+sentence_back cpus w ws c p ps other h =
+    line_back cpus w (after 32 ws) c p (all_after (λ b. 13 < b) 32 ws (lit< tt) (all_high (λ b. 13 < b) (λ x l. omega arith) ws ps)) (stops ws) other h
 
 go_plain : Plain (codes "go")
 go_plain = record { some = lit< tt; high = All-from_recursion (λ b. 44 < b) (codes "go") (lit< tt, (lit< tt, tt)) }
 
-on-plain : Plain (codes "on")
-on-plain = record { some = lit< tt; high = All-from_recursion (λ b. 44 < b) (codes "on") (lit< tt, (lit< tt, tt)) }
+on_plain : Plain (codes "on")
+on_plain = record { some = lit< tt; high = All-from_recursion (λ b. 44 < b) (codes "on") (lit< tt, (lit< tt, tt)) }
 
-any-plain : Plain (codes "any")
-any-plain = record { some = lit< tt; high = All-from_recursion (λ b. 44 < b) (codes "any") (lit< tt, (lit< tt, (lit< tt, tt))) }
+any_plain : Plain (codes "any")
+any_plain = record { some = lit< tt; high = All-from_recursion (λ b. 44 < b) (codes "any") (lit< tt, (lit< tt, (lit< tt, tt))) }
 
-arrive-plain : Plain (codes "arrive")
-arrive-plain = record { some = lit< tt; high = All-from_recursion (λ b. 44 < b) (codes "arrive") (lit< tt, (lit< tt, (lit< tt, (lit< tt, (lit< tt, (lit< tt, tt)))))) }
+arrive_plain : Plain (codes "arrive")
+arrive_plain = record { some = lit< tt; high = All-from_recursion (λ b. 44 < b) (codes "arrive") (lit< tt, (lit< tt, (lit< tt, (lit< tt, (lit< tt, (lit< tt, tt)))))) }
 
-find-plain : Plain (codes "find")
-find-plain = record { some = lit< tt; high = All-from_recursion (λ b. 44 < b) (codes "find") (lit< tt, (lit< tt, (lit< tt, (lit< tt, tt)))) }
+find_plain : Plain (codes "find")
+find_plain = record { some = lit< tt; high = All-from_recursion (λ b. 44 < b) (codes "find") (lit< tt, (lit< tt, (lit< tt, (lit< tt, tt)))) }
 
 -- A number below 2 ^ 32 is read back.
-count-back : (n : ℕ) → n < 2 ^ 32 → count_of (decimal n) ≡ Ok n
-count-back n h = decimal-below n (omega arith) (2 ^ 32) expected.Count h
+count_back : (n : ℕ) → n < 2 ^ 32 → count_of (decimal n) ≡ Ok n
+count_back n h = decimal_below n (omega arith) (2 ^ 32) expected.Count h
 
-count-plain : (n : ℕ) → n < 2 ^ 32 → Plain (decimal n)
-count-plain n h = decimal-plain n (omega arith)
+count_plain : (n : ℕ) → n < 2 ^ 32 → Plain (decimal n)
+count_plain n h = decimal_plain n (omega arith)
 
 module _ (cpus : ℕ) (few : cpus < 256) where
   -- A processor's number is read back.
-  cpu-back : (p : ℕ) → p < cpus → processor_of cpus (decimal p) ≡ Ok p
-  cpu-back p h = decimal-below p (omega arith) cpus (expected.Processor cpus) h
+  cpu_back : (p : ℕ) → p < cpus → processor_of cpus (decimal p) ≡ Ok p
+  cpu_back p h = decimal_below p (omega arith) cpus (expected.Processor cpus) h
 
-  cpu-plain : (p : ℕ) → p < cpus → Plain (decimal p)
-  cpu-plain p h = decimal-plain p (omega arith)
+  cpu_plain : (p : ℕ) → p < cpus → Plain (decimal p)
+  cpu_plain p h = decimal_plain p (omega arith)
 
   -- What begins on a processor is read back, if what follows its number is.
-  begin-back : (p : ℕ) (t : List ℕ) (c : Command) → p < cpus → ask_of p t ≡ Ok c → command_of cpus (decimal p) t ≡ Ok c
-  begin-back p t c h e = rw ((decimal-other p (omega arith)).0, cpu-back p h, decimal-digits p (omega arith)) e
+  begin_back : (p : ℕ) (t : List ℕ) (c : Command) → p < cpus → ask_of p t ≡ Ok c → command_of cpus (decimal p) t ≡ Ok c
+  begin_back p t c h e = rw ((decimal_other p (omega arith)).0, cpu_back p h, decimal_digits p (omega arith)) e
 
-  find-back : (p a : ℕ) → p < cpus → a < 2 ^ 32 → line_of cpus (sentence (decimal p ∷ codes "find" ∷ hexadecimal 8 a ∷ [])) ≡ Ok (line.Command (Begin p (Find a) (replicate 8 blank_piece)))
-  find-back p a h b =
-      let plain = hexadecimal-plain 8 a (lit< tt) in
-      let r = reads-after (codes "find") (hexadecimal 8 a ∷ []) find-plain in
-      let told : ok_or (address_of (hexadecimal 8 a)) expected.Address ≡ Ok a = ap (λ o. ok_or o expected.Address) (address-back a b) in
-      let each = All-from_recursion Plain (codes "find" ∷ hexadecimal 8 a ∷ []) (find-plain, (plain, tt)) in
-      sentence-back cpus (decimal p) (codes "find" ∷ hexadecimal 8 a ∷ []) _ (cpu-plain p h) each (decimal-other p (omega arith)).1
-      (begin-back p _ _ h (rw (r.0, r.1) (one-back (λ w. ok_or (address_of w) expected.Address) expected.End (λ x. Begin p (Find x) (replicate 8 blank_piece)) (hexadecimal 8 a) a plain told)))
+  find_back : (p a : ℕ) → p < cpus → a < 2 ^ 32 → line_of cpus (sentence (decimal p ∷ codes "find" ∷ hexadecimal 8 a ∷ [])) ≡ Ok (line.Command (Begin p (Find a) (replicate 8 blank_piece)))
+  find_back p a h b =
+      let plain = hexadecimal_plain 8 a (lit< tt) in
+      let r = reads_after (codes "find") (hexadecimal 8 a ∷ []) find_plain in
+      let told : ok_or (address_of (hexadecimal 8 a)) expected.Address ≡ Ok a = ap (λ o. ok_or o expected.Address) (address_back a b) in
+      let each = All-from_recursion Plain (codes "find" ∷ hexadecimal 8 a ∷ []) (find_plain, (plain, tt)) in
+      sentence_back cpus (decimal p) (codes "find" ∷ hexadecimal 8 a ∷ []) _ (cpu_plain p h) each (decimal_other p (omega arith)).1
+      (begin_back p _ _ h (rw (r.0, r.1) (one_back (λ w. ok_or (address_of w) expected.Address) expected.End (λ x. Begin p (Find x) (replicate 8 blank_piece)) (hexadecimal 8 a) a plain told)))
 
-  change-back : (p n : ℕ) (ps : List Piece) → p < cpus → FitsChange n ps → line_of cpus (decimal p ++ shown_pieces (take n ps)) ≡ Ok (line.Command (Begin p (Change n) ps))
-  change-back p n ps h f = by (take n ps) (omega (arith, length-take-le n ps (omega (arith, f.row, f.few)), f.some)) f.each (pieces-back n ps f)
+  change_back : (p n : ℕ) (ps : List Piece) → p < cpus → FitsChange n ps → line_of cpus (decimal p ++ shown_pieces (take n ps)) ≡ Ok (line.Command (Begin p (Change n) ps))
+  change_back p n ps h f = by (take n ps) (omega (arith, length-take-le n ps (omega (arith, f.row, f.few)), f.some)) f.each (pieces_back n ps f)
     where
       by : (qs : List Piece) → 0 < length qs → All FitsPiece qs → change_of (shown_pieces qs) ≡ Ok (record { count = n; pieces = ps }) → line_of cpus (decimal p ++ shown_pieces qs) ≡ Ok (line.Command (Begin p (Change n) ps))
       by [] some g e = absurd (omega arith)
       by (q ∷ qs) some g e =
-          let all = pieces-all (λ b. 13 < b) (lit< tt) (λ x l. omega arith) (q ∷ qs) g in
+          let all = pieces_all (λ b. 13 < b) (lit< tt) (λ x l. omega arith) (q ∷ qs) g in
           let others = after 44 (map shown_piece qs) in
           let first = All-head (All (λ b. 13 < b)) (shown_piece q) (map shown_piece qs) all in
           let behind = All-tail (All (λ b. 13 < b)) (shown_piece q) (map shown_piece qs) all in
           let sound = All-append (λ b. 13 < b) (shown_piece q) others first (all_after (λ b. 13 < b) 44 (map shown_piece qs) (lit< tt) behind) in
-          line-back cpus (decimal p) (shown_pieces (q ∷ qs)) _ (cpu-plain p h) sound (piece-stops q others) (decimal-other p (omega arith)).1
-          (begin-back p _ _ h (asks-change p q others ∙ rw e refl))
+          line_back cpus (decimal p) (shown_pieces (q ∷ qs)) _ (cpu_plain p h) sound (piece_stops q others) (decimal_other p (omega arith)).1
+          (begin_back p _ _ h (asks_change p q others ∙ rw e refl))
 
   pub read_back : (c : Command) → Fits cpus c → line_of cpus (shown c) ≡ Ok (line.Command c)
-  read_back (Begin p (Find a) ps) f = rw f.1.1 (find-back p a f.0 f.1.0)
-  read_back (Begin p (Change n) ps) f = change-back p n ps f.0 f.1
+  read_back (Begin p (Find a) ps) f = rw f.1.1 (find_back p a f.0 f.1.0)
+  read_back (Begin p (Change n) ps) f = change_back p n ps f.0 f.1
   read_back (Go p n) f =
-      let each = All-from_recursion Plain (decimal p ∷ decimal n ∷ []) (cpu-plain p f.0, (count-plain n f.1, tt)) in
-      sentence-back cpus (codes "go") (decimal p ∷ decimal n ∷ []) _ go_plain each refl
-      (two_back (processor_of cpus) count_of expected.End Go _ _ p n (cpu-plain p f.0) (count-plain n f.1) (cpu-back p f.0) (count-back n f.1))
+      let each = All-from_recursion Plain (decimal p ∷ decimal n ∷ []) (cpu_plain p f.0, (count_plain n f.1, tt)) in
+      sentence_back cpus (codes "go") (decimal p ∷ decimal n ∷ []) _ go_plain each refl
+      (two_back (processor_of cpus) count_of expected.End Go _ _ p n (cpu_plain p f.0) (count_plain n f.1) (cpu_back p f.0) (count_back n f.1))
   read_back (On p) f =
-      let each = All-from_recursion Plain (decimal p ∷ []) (cpu-plain p f, tt) in
-      sentence-back cpus (codes "on") (decimal p ∷ []) _ on-plain each refl
-      (one-back (processor_of cpus) expected.End On _ p (cpu-plain p f) (cpu-back p f))
+      let each = All-from_recursion Plain (decimal p ∷ []) (cpu_plain p f, tt) in
+      sentence_back cpus (codes "on") (decimal p ∷ []) _ on_plain each refl
+      (one_back (processor_of cpus) expected.End On _ p (cpu_plain p f) (cpu_back p f))
   read_back (Any s n) f =
-      let each = All-from_recursion Plain (decimal s ∷ decimal n ∷ []) (decimal-plain s f.0, (count-plain n f.1, tt)) in
-      sentence-back cpus (codes "any") (decimal s ∷ decimal n ∷ []) _ any-plain each refl
-      (two_back seed_of count_of expected.End Any _ _ s n (decimal-plain s f.0) (count-plain n f.1) (decimal-below s f.0 (2 ^ 64) expected.Seed f.0) (count-back n f.1))
+      let each = All-from_recursion Plain (decimal s ∷ decimal n ∷ []) (decimal_plain s f.0, (count_plain n f.1, tt)) in
+      sentence_back cpus (codes "any") (decimal s ∷ decimal n ∷ []) _ any_plain each refl
+      (two_back seed_of count_of expected.End Any _ _ s n (decimal_plain s f.0) (count_plain n f.1) (decimal_below s f.0 (2 ^ 64) expected.Seed f.0) (count_back n f.1))
   read_back (Arrive p n) f =
-      let each = All-from_recursion Plain (decimal p ∷ decimal n ∷ []) (cpu-plain p f.0, (count-plain n f.1, tt)) in
-      sentence-back cpus (codes "arrive") (decimal p ∷ decimal n ∷ []) _ arrive-plain each refl
-      (two_back (processor_of cpus) count_of expected.End Arrive _ _ p n (cpu-plain p f.0) (count-plain n f.1) (cpu-back p f.0) (count-back n f.1))
+      let each = All-from_recursion Plain (decimal p ∷ decimal n ∷ []) (cpu_plain p f.0, (count_plain n f.1, tt)) in
+      sentence_back cpus (codes "arrive") (decimal p ∷ decimal n ∷ []) _ arrive_plain each refl
+      (two_back (processor_of cpus) count_of expected.End Arrive _ _ p n (cpu_plain p f.0) (count_plain n f.1) (cpu_back p f.0) (count_back n f.1))
 
 -- The promise.
-pub reads-back : ReadsBack
-reads-back = read_back
+pub reads_back_lem : ReadsBack
+reads_back_lem = read_back

@@ -21,19 +21,19 @@ use Rattle.script.specs.Shown.{hexadecimal, shown_prefix}
 use Rattle.script.proofs.Back.Plain.{Plain}
 
 -- Digits are digits to the last.
-front-digits : (r : ℕ) (t : List ℕ) → AllDigits r t → front_of (Digit r) t ≡ length t
-front-digits r [] h = refl
-front-digits r (c ∷ cs) h =
+front_digits : (r : ℕ) (t : List ℕ) → AllDigits r t → front_of (Digit r) t ≡ length t
+front_digits r [] h = refl
+front_digits r (c ∷ cs) h =
     let is = lt-ltb (digit_value c) r h.0 in
-    rw is (omega (arith, front-digits r cs h.1))
+    rw is (omega (arith, front_digits r cs h.1))
 
 all_digits : (r : ℕ) (t : List ℕ) → 0 < length t → AllDigits r t → all_of (Digit r) t ≡ true
-all_digits r t some h = and_from _ _ (lt-ltb _ _ some) (eq-eqb _ _ (front-digits r t h))
+all_digits r t some h = and_from _ _ (lt-ltb _ _ some) (eq-eqb _ _ (front_digits r t h))
 
 -- Decimal digits stand behind the comma.
-digits-high : (t : List ℕ) → AllDigits 10 t → All (λ b. 44 < b) t
-digits-high [] h = All-nil (λ b. 44 < b)
-digits-high (c ∷ cs) h = All-cons (λ b. 44 < b) c cs (omega (arith, digit_from_value c h.0)) (digits-high cs h.1)
+digits_high : (t : List ℕ) → AllDigits 10 t → All (λ b. 44 < b) t
+digits_high [] h = All-nil (λ b. 44 < b)
+digits_high (c ∷ cs) h = All-cons (λ b. 44 < b) c cs (omega (arith, digit_from_value c h.0)) (digits_high cs h.1)
 
 module _ (n : ℕ) (fits : n < 2 ^ 64) where
   digits : AllDigits 10 (decimal n)
@@ -42,19 +42,19 @@ module _ (n : ℕ) (fits : n < 2 ^ 64) where
   some : 0 < length (decimal n)
   some = (decimal_is_IsNumeral n fits).0.0
 
-  pub decimal-plain : Plain (decimal n)
-  decimal-plain = record { some = some; high = digits-high (decimal n) digits }
+  pub decimal_plain : Plain (decimal n)
+  decimal_plain = record { some = some; high = digits_high (decimal n) digits }
 
-  pub decimal-digits : all_of (Digit 10) (decimal n) ≡ true
-  decimal-digits = all_digits 10 (decimal n) some digits
+  pub decimal_digits : all_of (Digit 10) (decimal n) ≡ true
+  decimal_digits = all_digits 10 (decimal n) some digits
 
   -- A number below the bound is read back.
-  pub decimal-below : (bound : ℕ) (e : Expected) → n < bound → below bound e (decimal n) ≡ Ok n
-  decimal-below bound e h = rw (decimal-digits, (decimal_is_IsNumeral n fits).1, lt-ltb n bound h) refl
+  pub decimal_below : (bound : ℕ) (e : Expected) → n < bound → below bound e (decimal n) ≡ Ok n
+  decimal_below bound e h = rw (decimal_digits, (decimal_is_IsNumeral n fits).1, lt-ltb n bound h) refl
 
   -- A number is no keyword, and does not begin a comment.
-  pub decimal-other : (keyword_of (decimal n) ≡ None) × (passed (decimal n) ≡ false)
-  decimal-other = other (decimal n) some digits
+  pub decimal_other : (keyword_of (decimal n) ≡ None) × (passed (decimal n) ≡ false)
+  decimal_other = other (decimal n) some digits
     where
       other : (t : List ℕ) → 0 < length t → AllDigits 10 t → (keyword_of t ≡ None) × (passed t ≡ false)
       other [] h d = absurd (omega arith)
@@ -62,7 +62,7 @@ module _ (n : ℕ) (fits : n < 2 ^ 64) where
 
 -- The length of a prefix is read back.
 pub length_back : (n : ℕ) → n < 256 → length_of (decimal n) ≡ Some n
-length_back n h = rw (decimal-digits n (omega arith), (decimal_is_IsNumeral n (omega arith)).1) (ap Some (omega arith))
+length_back n h = rw (decimal_digits n (omega arith), (decimal_is_IsNumeral n (omega arith)).1) (ap Some (omega arith))
 
 pub length-hexadecimal : (k n : ℕ) → length (hexadecimal k n) ≡ k
 unfolding hexadecimal
@@ -70,42 +70,42 @@ length-hexadecimal zero n = refl
 length-hexadecimal (suc k) n = length_push (hexadecimal k (n / 16)) (digit_char (n % 16)) ∙ omega (arith, length-hexadecimal k (n / 16))
 
 -- The character of a hexadecimal digit is that digit.
-digit-back : (d : ℕ) → d < 16 → (digit_value (digit_char d) ≡ d) × (44 < digit_char d)
-digit-back d h = (grind (arith, nat_tests), grind (arith, nat_tests))
+digit_back : (d : ℕ) → d < 16 → (digit_value (digit_char d) ≡ d) × (44 < digit_char d)
+digit_back d h = (grind (arith, nat_tests), grind (arith, nat_tests))
 
-digits-hexadecimal : (k n : ℕ) → AllDigits 16 (hexadecimal k n) × All (λ b. 44 < b) (hexadecimal k n)
+digits_hexadecimal : (k n : ℕ) → AllDigits 16 (hexadecimal k n) × All (λ b. 44 < b) (hexadecimal k n)
 unfolding hexadecimal
-digits-hexadecimal zero n = (tt, All-nil (λ b. 44 < b))
-digits-hexadecimal (suc k) n =
-    let back = digit-back (n % 16) (omega arith) in
-    let ih = digits-hexadecimal k (n / 16) in
+digits_hexadecimal zero n = (tt, All-nil (λ b. 44 < b))
+digits_hexadecimal (suc k) n =
+    let back = digit_back (n % 16) (omega arith) in
+    let ih = digits_hexadecimal k (n / 16) in
     (digits_push 16 (hexadecimal k (n / 16)) _ ih.0 (omega arith), All-push (λ b. 44 < b) (hexadecimal k (n / 16)) _ ih.1 back.1)
 
 -- Digits of a number that has no more write the number.
-value-hexadecimal : (k n : ℕ) → n < 16 ^ k → digits_value 16 (hexadecimal k n) ≡ n
+value_hexadecimal : (k n : ℕ) → n < 16 ^ k → digits_value 16 (hexadecimal k n) ≡ n
 unfolding hexadecimal
-value-hexadecimal zero n h = omega arith
-value-hexadecimal (suc k) n h =
-    let back = digit-back (n % 16) (omega arith) in
+value_hexadecimal zero n h = omega arith
+value_hexadecimal (suc k) n h =
+    let back = digit_back (n % 16) (omega arith) in
     let power : 16 ^ suc k ≡ 16 ^ k * 16 = pow-suc 16 k in
-    let ih = value-hexadecimal k (n / 16) (omega arith) in
+    let ih = value_hexadecimal k (n / 16) (omega arith) in
     digits_value_push 16 (hexadecimal k (n / 16)) (digit_char (n % 16)) ∙ omega arith
 
-pub hexadecimal-plain : (k n : ℕ) → 0 < k → Plain (hexadecimal k n)
-hexadecimal-plain k n h = record { some = omega (arith, length-hexadecimal k n); high = (digits-hexadecimal k n).1 }
+pub hexadecimal_plain : (k n : ℕ) → 0 < k → Plain (hexadecimal k n)
+hexadecimal_plain k n h = record { some = omega (arith, length-hexadecimal k n); high = (digits_hexadecimal k n).1 }
 
 -- An address is read back.
-pub address-back : (a : ℕ) → a < 2 ^ 32 → address_of (hexadecimal 8 a) ≡ Some a
-address-back a h =
+pub address_back : (a : ℕ) → a < 2 ^ 32 → address_of (hexadecimal 8 a) ≡ Some a
+address_back a h =
     let long = length-hexadecimal 8 a in
-    rw (all_digits 16 (hexadecimal 8 a) (omega arith) (digits-hexadecimal 8 a).0, eq-eqb _ _ long, value-hexadecimal 8 a h) refl
+    rw (all_digits 16 (hexadecimal 8 a) (omega arith) (digits_hexadecimal 8 a).0, eq-eqb _ _ long, value_hexadecimal 8 a h) refl
 
 module _ (bits len : ℕ) (b : bits < 2 ^ 32) (l : len < 256) where
   -- A prefix is one word.
-  pub prefix-plain : Plain (shown_prefix bits len)
-  prefix-plain = record {
+  pub prefix_plain : Plain (shown_prefix bits len)
+  prefix_plain = record {
     some = omega (arith, length-append (hexadecimal 8 bits) (47 ∷ decimal len));
-    high = All-append (λ b. 44 < b) (hexadecimal 8 bits) (47 ∷ decimal len) (digits-hexadecimal 8 bits).1 (All-cons (λ b. 44 < b) 47 (decimal len) (lit< tt) (decimal-plain len (omega arith)).high);
+    high = All-append (λ b. 44 < b) (hexadecimal 8 bits) (47 ∷ decimal len) (digits_hexadecimal 8 bits).1 (All-cons (λ b. 44 < b) 47 (decimal len) (lit< tt) (decimal_plain len (omega arith)).high);
   }
 
   -- A prefix is read back.
@@ -120,5 +120,5 @@ module _ (bits len : ℕ) (b : bits < 2 ^ 32) (l : len < 256) where
       ap (λ x. cond (eqb x 47) (prefixed (address_of (take 8 (h ++ t))) (length_of (drop 9 (h ++ t)))) (Err expected.Prefix)) slash ∙
       ap (λ x. prefixed (address_of x) (length_of (drop 9 (h ++ t)))) front ∙
       ap (λ x. prefixed (address_of h) (length_of x)) back ∙
-      ap (λ x. prefixed x (length_of (decimal len))) (address-back bits b) ∙
+      ap (λ x. prefixed x (length_of (decimal len))) (address_back bits b) ∙
       ap (λ x. prefixed (Some bits) x) (length_back len l)

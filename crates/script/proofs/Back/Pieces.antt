@@ -12,27 +12,27 @@ use Rattle.script.specs.Lines.{ask_of, changes_of}
 use Rattle.script.specs.Pieces.{parts, piece_of, blank_piece, no_pieces, with_piece, gathered, change_of}
 use Rattle.script.specs.Reading.{count_of, prefix_of}
 use Rattle.script.specs.Shown.{after, shown_prefix, piece_words, shown_piece, shown_pieces, FitsPiece, FitsChange}
-use Rattle.script.proofs.Back.Numerals.{decimal-plain, decimal-below, prefix-plain, prefix_back}
-use Rattle.script.proofs.Back.Plain.{Plain, all_after, all-high, reads-next}
-use Rattle.script.proofs.Back.Sentences.{reads-after, one-back, two_back}
+use Rattle.script.proofs.Back.Numerals.{decimal_plain, decimal_below, prefix_plain, prefix_back}
+use Rattle.script.proofs.Back.Plain.{Plain, all_after, all_high, reads_next}
+use Rattle.script.proofs.Back.Sentences.{reads_after, one_back, two_back}
 
-put-plain : Plain (codes "put")
-put-plain = record { some = lit< tt; high = All-from_recursion (λ b. 44 < b) (codes "put") (lit< tt, (lit< tt, (lit< tt, tt))) }
+put_plain : Plain (codes "put")
+put_plain = record { some = lit< tt; high = All-from_recursion (λ b. 44 < b) (codes "put") (lit< tt, (lit< tt, (lit< tt, tt))) }
 
-take-plain : Plain (codes "take")
-take-plain = record { some = lit< tt; high = All-from_recursion (λ b. 44 < b) (codes "take") (lit< tt, (lit< tt, (lit< tt, (lit< tt, tt)))) }
+take_plain : Plain (codes "take")
+take_plain = record { some = lit< tt; high = All-from_recursion (λ b. 44 < b) (codes "take") (lit< tt, (lit< tt, (lit< tt, (lit< tt, tt)))) }
 
 module _ (p : Piece) (f : FitsPiece p) where
-  prefix-word : Plain (shown_prefix p.bits p.len)
-  prefix-word = prefix-plain p.bits p.len f.bits f.len
+  prefix_word : Plain (shown_prefix p.bits p.len)
+  prefix_word = prefix_plain p.bits p.len f.bits f.len
 
   -- The words of a piece are words.
-  pub piece-plain : All Plain (piece_words p)
-  piece-plain = by p.puts
+  pub piece_plain : All Plain (piece_words p)
+  piece_plain = by p.puts
     where
       by : (b : Bool) → All Plain (piece_words (record { puts = b; len = p.len; bits = p.bits; tells = p.tells }))
-      by true = All-from_recursion Plain (codes "put" ∷ shown_prefix p.bits p.len ∷ decimal p.tells ∷ []) (put-plain, (prefix-word, (decimal-plain p.tells (omega (arith, f.tells)), tt)))
-      by false = All-from_recursion Plain (codes "take" ∷ shown_prefix p.bits p.len ∷ []) (take-plain, (prefix-word, tt))
+      by true = All-from_recursion Plain (codes "put" ∷ shown_prefix p.bits p.len ∷ decimal p.tells ∷ []) (put_plain, (prefix_word, (decimal_plain p.tells (omega (arith, f.tells)), tt)))
+      by false = All-from_recursion Plain (codes "take" ∷ shown_prefix p.bits p.len ∷ []) (take_plain, (prefix_word, tt))
 
   -- A piece is read back.
   pub piece_back : piece_of (shown_piece p) ≡ Ok p
@@ -40,41 +40,41 @@ module _ (p : Piece) (f : FitsPiece p) where
     where
       by : (b : Bool) (t : ℕ) → t < 2 ^ 32 → (b ≡ false → t ≡ 0) → piece_of (shown_piece (record { puts = b; len = p.len; bits = p.bits; tells = t })) ≡ Ok (record { puts = b; len = p.len; bits = p.bits; tells = t })
       by true t h s =
-          let r = reads-after (codes "put") (shown_prefix p.bits p.len ∷ decimal t ∷ []) put-plain in
-          rw (r.0, r.1) (two_back prefix_of count_of expected.CommaOrEnd (λ x n. record { puts = true; len = x.len; bits = x.bits; tells = n }) _ _ _ _ prefix-word (decimal-plain t (omega arith)) (prefix_back p.bits p.len f.bits f.len) (decimal-below t (omega arith) (2 ^ 32) expected.Count h))
+          let r = reads_after (codes "put") (shown_prefix p.bits p.len ∷ decimal t ∷ []) put_plain in
+          rw (r.0, r.1) (two_back prefix_of count_of expected.CommaOrEnd (λ x n. record { puts = true; len = x.len; bits = x.bits; tells = n }) _ _ _ _ prefix_word (decimal_plain t (omega arith)) (prefix_back p.bits p.len f.bits f.len) (decimal_below t (omega arith) (2 ^ 32) expected.Count h))
       by false t h s =
-          let r = reads-after (codes "take") (shown_prefix p.bits p.len ∷ []) take-plain in
-          rw (r.0, r.1, s refl) (one-back prefix_of expected.CommaOrEnd (λ x. record { puts = false; len = x.len; bits = x.bits; tells = 0 }) _ _ prefix-word (prefix_back p.bits p.len f.bits f.len))
+          let r = reads_after (codes "take") (shown_prefix p.bits p.len ∷ []) take_plain in
+          rw (r.0, r.1, s refl) (one_back prefix_of expected.CommaOrEnd (λ x. record { puts = false; len = x.len; bits = x.bits; tells = 0 }) _ _ prefix_word (prefix_back p.bits p.len f.bits f.len))
 
 -- A text without commas is a part by itself.
-part-back : (t : List ℕ) (ts : List (List ℕ)) → All (λ b. eqb b 44 ≡ false) t → All (All (λ b. eqb b 44 ≡ false)) ts → parts (t ++ after 44 ts) ≡ t ∷ ts
+part_back : (t : List ℕ) (ts : List (List ℕ)) → All (λ b. eqb b 44 ≡ false) t → All (All (λ b. eqb b 44 ≡ false)) ts → parts (t ++ after 44 ts) ≡ t ∷ ts
 unfolding parts after
-part-back [] [] h hs = refl
-part-back [] (u ∷ ts) h hs =
+part_back [] [] h hs = refl
+part_back [] (u ∷ ts) h hs =
     let P : ℕ → Type 0 = λ b. eqb b 44 ≡ false in
-    ap (λ ps. [] ∷ ps) (part-back u ts (All-head (All P) u ts hs) (All-tail (All P) u ts hs))
-part-back (c ∷ cs) ts h hs =
+    ap (λ ps. [] ∷ ps) (part_back u ts (All-head (All P) u ts hs) (All-tail (All P) u ts hs))
+part_back (c ∷ cs) ts h hs =
     let P : ℕ → Type 0 = λ b. eqb b 44 ≡ false in
-    rw (All-head P c cs h) (rw (part-back cs ts (All-tail P c cs h) hs) refl)
+    rw (All-head P c cs h) (rw (part_back cs ts (All-tail P c cs h) hs) refl)
 
 -- What holds of a blank and of all that stands behind the comma holds of each byte of a piece.
-pub piece-all : (P : ℕ → Type 0) → P 32 → ((x : ℕ) → 44 < x → P x) → (p : Piece) → FitsPiece p → All P (shown_piece p)
-piece-all P here high p f = all_after P 32 (piece_words p) here (all-high P high (piece_words p) (piece-plain p f))
+pub piece_all : (P : ℕ → Type 0) → P 32 → ((x : ℕ) → 44 < x → P x) → (p : Piece) → FitsPiece p → All P (shown_piece p)
+piece_all P here high p f = all_after P 32 (piece_words p) here (all_high P high (piece_words p) (piece_plain p f))
 
 -- The same of some pieces.
-pub pieces-all : (P : ℕ → Type 0) → P 32 → ((x : ℕ) → 44 < x → P x) → (ps : List Piece) → All FitsPiece ps → All (All P) (map shown_piece ps)
-pieces-all P here high [] f = All-nil (All P)
-pieces-all P here high (p ∷ ps) f =
-    let first = piece-all P here high p (All-head FitsPiece p ps f) in
-    All-cons (All P) (shown_piece p) (map shown_piece ps) first (pieces-all P here high ps (All-tail FitsPiece p ps f))
+pub pieces_all : (P : ℕ → Type 0) → P 32 → ((x : ℕ) → 44 < x → P x) → (ps : List Piece) → All FitsPiece ps → All (All P) (map shown_piece ps)
+pieces_all P here high [] f = All-nil (All P)
+pieces_all P here high (p ∷ ps) f =
+    let first = piece_all P here high p (All-head FitsPiece p ps f) in
+    All-cons (All P) (shown_piece p) (map shown_piece ps) first (pieces_all P here high ps (All-tail FitsPiece p ps f))
 
 -- Pieces with commas between them are parted again.
-pieces-parted : (p : Piece) (ps : List Piece) → All FitsPiece (p ∷ ps) → parts (shown_pieces (p ∷ ps)) ≡ map shown_piece (p ∷ ps)
-pieces-parted p ps f =
+pieces_parted : (p : Piece) (ps : List Piece) → All FitsPiece (p ∷ ps) → parts (shown_pieces (p ∷ ps)) ≡ map shown_piece (p ∷ ps)
+pieces_parted p ps f =
     let P : ℕ → Type 0 = λ b. eqb b 44 ≡ false in
-    let whole = pieces-all P refl (λ x h. ne_eqb x 44 (omega arith)) (p ∷ ps) f in
+    let whole = pieces_all P refl (λ x h. ne_eqb x 44 (omega arith)) (p ∷ ps) f in
     let first = All-head (All P) (shown_piece p) (map shown_piece ps) whole in
-    part-back (shown_piece p) (map shown_piece ps) first (All-tail (All P) (shown_piece p) (map shown_piece ps) whole)
+    part_back (shown_piece p) (map shown_piece ps) first (All-tail (All P) (shown_piece p) (map shown_piece ps) whole)
 
 -- Each is read back and gathered.
 pieces-gathered : (c : Change) (ps : List Piece) → All FitsPiece ps → gathered c (map shown_piece ps) ≡ Ok (fold with_piece c ps)
@@ -105,33 +105,33 @@ pieces_kept qs (p ∷ ps) m h =
     ap (λ l. row l m) (append_assoc qs (p ∷ []) ps)
 
 -- Pieces that are shown are read back into a row.
-change-back : (ps : List Piece) (m : ℕ) → 0 < length ps → length ps + m ≡ 8 → All FitsPiece ps → change_of (shown_pieces ps) ≡ Ok (row ps m)
-change-back [] m some h f = absurd (omega arith)
-change-back (p ∷ ps) m some h f =
-    ap (gathered no_pieces) (pieces-parted p ps f) ∙ pieces-gathered no_pieces (p ∷ ps) f ∙
+change_back : (ps : List Piece) (m : ℕ) → 0 < length ps → length ps + m ≡ 8 → All FitsPiece ps → change_of (shown_pieces ps) ≡ Ok (row ps m)
+change_back [] m some h f = absurd (omega arith)
+change_back (p ∷ ps) m some h f =
+    ap (gathered no_pieces) (pieces_parted p ps f) ∙ pieces-gathered no_pieces (p ∷ ps) f ∙
     ap (λ n. Ok (fold with_piece (row [] n) (p ∷ ps))) (sym h) ∙ ap Ok (pieces_kept [] (p ∷ ps) m (omega arith))
 
 -- That is the row that they came from.
-pub pieces-back : (n : ℕ) (ps : List Piece) → FitsChange n ps → change_of (shown_pieces (take n ps)) ≡ Ok (record { count = n; pieces = ps })
-pieces-back n ps f =
+pub pieces_back : (n : ℕ) (ps : List Piece) → FitsChange n ps → change_of (shown_pieces (take n ps)) ≡ Ok (record { count = n; pieces = ps })
+pieces_back n ps f =
     let long = length-take-le n ps (omega (arith, f.row, f.few)) in
     let same : take n ps ++ replicate (8 - n) blank_piece ≡ ps = ap (λ l. take n ps ++ l) (sym f.behind) ∙ take-append-drop n ps in
-    change-back (take n ps) (8 - n) (omega (arith, f.some)) (omega (arith, f.few)) f.each ∙ (λ i. Ok (record { count = long i; pieces = same i }))
+    change_back (take n ps) (8 - n) (omega (arith, f.some)) (omega (arith, f.few)) f.each ∙ (λ i. Ok (record { count = long i; pieces = same i }))
 
 -- A piece is no part of the word before it.
-pub piece-stops : (p : Piece) (t : List ℕ) → front_of Letter (shown_piece p ++ t) ≡ 0
+pub piece_stops : (p : Piece) (t : List ℕ) → front_of Letter (shown_piece p ++ t) ≡ 0
 unfolding after
-piece-stops p t = by p.puts
+piece_stops p t = by p.puts
   where
     by : (b : Bool) → front_of Letter (shown_piece (record { puts = b; len = p.len; bits = p.bits; tells = p.tells }) ++ t) ≡ 0
     by true = refl
     by false = refl
 
 -- What begins with a piece is a change.
-pub asks-change : (cpu : ℕ) (p : Piece) (t : List ℕ) → ask_of cpu (shown_piece p ++ t) ≡ changes_of cpu (shown_piece p ++ t)
+pub asks_change : (cpu : ℕ) (p : Piece) (t : List ℕ) → ask_of cpu (shown_piece p ++ t) ≡ changes_of cpu (shown_piece p ++ t)
 unfolding after
-asks-change cpu p t = by p.puts
+asks_change cpu p t = by p.puts
   where
     by : (b : Bool) → let s = shown_piece (record { puts = b; len = p.len; bits = p.bits; tells = p.tells }) ++ t in ask_of cpu s ≡ changes_of cpu s
-    by true = let r = reads-next (codes "put") (after 32 (shown_prefix p.bits p.len ∷ decimal p.tells ∷ []) ++ t) put-plain refl in rw r.0 refl
-    by false = let r = reads-next (codes "take") (after 32 (shown_prefix p.bits p.len ∷ []) ++ t) take-plain refl in rw r.0 refl
+    by true = let r = reads_next (codes "put") (after 32 (shown_prefix p.bits p.len ∷ decimal p.tells ∷ []) ++ t) put_plain refl in rw r.0 refl
+    by false = let r = reads_next (codes "take") (after 32 (shown_prefix p.bits p.len ∷ []) ++ t) take_plain refl in rw r.0 refl

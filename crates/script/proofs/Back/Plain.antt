@@ -31,13 +31,13 @@ reads (c ∷ cs) t p ends =
     rw (solid, long) (take_at w t _ refl, drop_at w t _ refl)
 
 -- A blank in front is passed over.
-pub reads-blank : (t : List ℕ) → (word (32 ∷ t) ≡ word t) × (past (32 ∷ t) ≡ past t)
+pub reads_blank : (t : List ℕ) → (word (32 ∷ t) ≡ word t) × (past (32 ∷ t) ≡ past t)
 unfolding word past
-reads-blank t = rw one-add (refl, refl)
+reads_blank t = rw one-add (refl, refl)
 
 -- The same of a word that follows another.
-pub reads-next : (w t : List ℕ) → Plain w → front_of Letter t ≡ 0 → (word (32 ∷ (w ++ t)) ≡ w) × (past (32 ∷ (w ++ t)) ≡ t)
-reads-next w t p ends = let r = reads w t p ends in let b = reads-blank (w ++ t) in (b.0 ∙ r.0, b.1 ∙ r.1)
+pub reads_next : (w t : List ℕ) → Plain w → front_of Letter t ≡ 0 → (word (32 ∷ (w ++ t)) ≡ w) × (past (32 ∷ (w ++ t)) ≡ t)
+reads_next w t p ends = let r = reads w t p ends in let b = reads_blank (w ++ t) in (b.0 ∙ r.0, b.1 ∙ r.1)
 
 -- What begins with a blank is no part of the word before it.
 pub stops : (ws : List (List ℕ)) → front_of Letter (after 32 ws) ≡ 0
@@ -54,8 +54,8 @@ all_after P b (w ∷ ws) here h =
     All-cons P b (w ++ after b ws) here (All-append P w (after b ws) (All-head (All P) w ws h) behind)
 
 -- What holds of all that stands behind the comma holds of each byte of such words.
-pub all-high : (P : ℕ → Type 0) → ((x : ℕ) → 44 < x → P x) → (ws : List (List ℕ)) → All Plain ws → All (All P) ws
-all-high P high [] h = All-nil (All P)
-all-high P high (w ∷ ws) h =
+pub all_high : (P : ℕ → Type 0) → ((x : ℕ) → 44 < x → P x) → (ws : List (List ℕ)) → All Plain ws → All (All P) ws
+all_high P high [] h = All-nil (All P)
+all_high P high (w ∷ ws) h =
     let first = All-weaker (λ x. 44 < x) P high w (All-head Plain w ws h).high in
-    All-cons (All P) w ws first (all-high P high ws (All-tail Plain w ws h))
+    All-cons (All P) w ws first (all_high P high ws (All-tail Plain w ws h))

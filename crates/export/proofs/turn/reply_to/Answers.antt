@@ -1,12 +1,12 @@
 use Rattle.std.proofs.Common.{refl}
 use Rattle.std.proofs.lemmas.Result.{err_from_is_err_and}
-use Rattle.export.proofs.Whys.{load_ok, load-why, turn-why}
+use Rattle.export.proofs.Whys.{load_ok, load_why, turn_why}
 use Rattle.export.proofs.turn.reply_to.Goals as goal
 
 pub returns-in_err-c : goal.returns-in_err-c
 returns-in_err-c c =
     let p = err_from_is_err_and c.from_residual.result c.from_residual.ensures.1 in
-    rw (p.1, p.2) (record { registers = refl; own = refl; out = refl; why = load-why _ _ c.in_err-c.ensures _ _ _ _ })
+    rw (p.1, p.2) (record { registers = refl; own = refl; out = refl; why = load_why _ _ c.in_err-c.ensures _ _ _ _ })
 
 pub returns-in-Ok : goal.returns-in-Ok
 returns-in-Ok c = record {
@@ -26,5 +26,5 @@ returns-in-Err c =
       registers = refl;
       own = refused.own;
       out = refl;
-      why = turn-why _ _ _ _ _ _ _ _ c.refusal_of.ensures (load_ok _ _ c.in_ok-c.ensures) refused.wrong;
+      why = turn_why _ _ _ _ _ _ _ _ c.refusal_of.ensures (load_ok _ _ c.in_ok-c.ensures) refused.wrong;
     }

@@ -1,6 +1,6 @@
 use Rattle.std.proofs.Common.{◌≡◌, arith}
 use Rattle.moves.specs.Moves.{width_of, more}
-use Rattle.moves.proofs.Moves.{moves-behind, moves_not, moves-end}
+use Rattle.moves.proofs.Moves.{moves_behind, moves_not, moves_end}
 use Rattle.moves.proofs.listed.all_moves.Goals as goal
 
 pub loop-at-preserved : goal.loop-at-preserved
@@ -10,7 +10,7 @@ loop-at-preserved c =
     let i = c.loop-at.invariant in (
       omega (arith, m.body.long, w),
       (λ a. i.1 (more c.in-Some.listed m (rw w at a))),
-      (λ a. rw w (moves-behind c.args.cpus c.args.words.now c.loop-at.at c.in-Some.listed m (i.2 a))),
+      (λ a. rw w (moves_behind c.args.cpus c.args.words.now c.loop-at.at c.in-Some.listed m (i.2 a))),
     )
 
 pub returns-in-None : goal.returns-in-None
@@ -21,6 +21,6 @@ returns-in-None c = record {
 
 pub returns : goal.returns
 returns c = record {
-  sound = λ t. c.loop-at.invariant.1 (moves-end c.args.cpus c.args.words.now c.loop-at.at (omega (arith, c.loop-at.invariant.0, c.loop-at-test.false)));
+  sound = λ t. c.loop-at.invariant.1 (moves_end c.args.cpus c.args.words.now c.loop-at.at (omega (arith, c.loop-at.invariant.0, c.loop-at-test.false)));
   exact = λ a. tt;
 }

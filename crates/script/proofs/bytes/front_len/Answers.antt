@@ -1,7 +1,7 @@
 use Rattle.std.proofs.Common.{◌≡◌, sym, ◌∙◌, arith}
 use Rattle.std.proofs.lemmas.List.Sums.{prefix_len-drop_yes, prefix_len-drop_no, prefix_len-drop_all}
 use Rattle.script.specs.Bytes.{is_of, front_of}
-use Rattle.script.proofs.Leading.{front-is, front_ends}
+use Rattle.script.proofs.Leading.{front_is, front_ends}
 use Rattle.script.proofs.bytes.front_len.Goals as goal
 
 pub loop-n-preserved : goal.loop-n-preserved
@@ -16,7 +16,7 @@ returns-else-has c =
     record {
       value = is;
       bound = omega arith;
-      all = rw is (front-is c.args.kind c.args.text.now);
+      all = rw is (front_is c.args.kind c.args.text.now);
       stops = rw is (front_ends c.args.kind c.args.text.now);
     }
 
@@ -27,6 +27,6 @@ returns-after-loop-n c =
     record {
       value = is;
       bound = omega arith;
-      all = rw is (front-is c.args.kind c.args.text.now);
+      all = rw is (front_is c.args.kind c.args.text.now);
       stops = rw is (front_ends c.args.kind c.args.text.now);
     }

@@ -4,7 +4,7 @@ use Rattle.std.specs.Option.{option_map}
 use Rattle.script.specs.declared.expected.Expected.{Expected}
 use Rattle.script.specs.declared.pieces.Change.{Change}
 use Rattle.script.specs.Pieces.{parts, parts_after, gathered}
-use Rattle.script.proofs.Gathering.{gather-more, gather-wrong}
+use Rattle.script.proofs.Gathering.{gather_more, gather_wrong}
 use Rattle.script.proofs.pieces.read_change.Goals as goal
 
 -- the invariant, with the first part in front
@@ -15,12 +15,12 @@ opened change rest line ts whole inv is first = ap (gathered change) (sym first)
 pub returns-in_err-read_piece : goal.returns-in_err-read_piece
 returns-in_err-read_piece c =
     let p = err_from_is_err_and c.from_residual.result c.from_residual.ensures.1 in
-    rw (p.1, p.2) (gather-wrong _ _ _ _ (opened _ _ _ _ _ c.loop-rest.invariant c.in-Some.is c.split_part.ensures.parts) _ c.in_err-read_piece.ensures)
+    rw (p.1, p.2) (gather_wrong _ _ _ _ (opened _ _ _ _ _ c.loop-rest.invariant c.in-Some.is c.split_part.ensures.parts) _ c.in_err-read_piece.ensures)
 
 pub loop-rest-preserved : goal.loop-rest-preserved
 loop-rest-preserved c =
     ap (λ s. gathered s (parts_after (option_map (λ x. x.now) c.split_part.result.1))) c.keep.ensures ∙
-    gather-more _ _ _ _ (opened _ _ _ _ _ c.loop-rest.invariant c.in-Some.is c.split_part.ensures.parts) _ c.in_ok-read_piece.ensures
+    gather_more _ _ _ _ (opened _ _ _ _ _ c.loop-rest.invariant c.in-Some.is c.split_part.ensures.parts) _ c.in_ok-read_piece.ensures
 
 pub returns : goal.returns
 unfolding gathered

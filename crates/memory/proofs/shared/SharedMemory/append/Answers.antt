@@ -1,6 +1,6 @@
 use Rattle.std.proofs.Common.{sym, arith}
-use Rattle.routes.proofs.Late.Arriving.{arrives-on}
-use Rattle.memory.proofs.Arrivals.{arrives-same}
+use Rattle.routes.proofs.Late.Arriving.{arrives_on}
+use Rattle.memory.proofs.Arrivals.{arrives_same}
 use Rattle.memory.proofs.shared.SharedMemory.append.Goals as goal
 
 pub push-requires : goal.push-requires
@@ -11,4 +11,4 @@ push-requires c = record {
 }
 
 pub returns : goal.returns
-returns c = arrives-on (c.make_room.ensures.later c.args.block c.args.word c.args.x) (arrives-same (sym c.push.ensures))
+returns c = arrives_on (c.make_room.ensures.later c.args.block c.args.word c.args.x) (arrives_same (sym c.push.ensures))

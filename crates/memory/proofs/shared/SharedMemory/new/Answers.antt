@@ -1,6 +1,6 @@
 use Rattle.std.proofs.Common.{◌<◌, refl, ◌∙◌, arith}
 use Rattle.std.proofs.lemmas.Bool.{ne_eqb}
-use Rattle.memory.proofs.Starts.{start-val, start-kept, start-late, start-rows-in, start-stores-in, start-free, start-apart, start-count}
+use Rattle.memory.proofs.Starts.{start_val, start_kept, start_late, start_rows_in, start_stores_in, start_free, start_apart, start_count}
 use Rattle.memory.proofs.shared.SharedMemory.new.Goals as goal
 
 pub invariant_of-result : goal.invariant_of-result
@@ -14,18 +14,18 @@ invariant_of-result c =
       stacked = c.stack_others.auto.free ∙ c.requires.stacked;
       rowed = c.clear_rows.auto.late ∙ c.requires.rowed;
       sixteen = refl;
-      unheld = start-free _ _ _ some marked stacked;
-      apart = start-apart _ _ _ some marked stacked;
-      counted = start-count _ _ _ some marked stacked;
-      inside = start-rows-in _ layout.roomy;
-      bound = start-stores-in _ _ some c.clear_rows.ensures;
+      unheld = start_free _ _ _ some marked stacked;
+      apart = start_apart _ _ _ some marked stacked;
+      counted = start_count _ _ _ some marked stacked;
+      inside = start_rows_in _ layout.roomy;
+      bound = start_stores_in _ _ some c.clear_rows.ensures;
     }
 
 pub returns : goal.returns
 returns c =
     let layout = c.args.layout in
     record {
-      starts = (layout.some, layout.few, layout.least, layout.most, start-val _ c.clear_first.ensures.noughts, rw (c.hold_first.ensures 0) tt, (λ b h. c.hold_first.ensures b ∙ ne_eqb b 0 (omega arith)), start-late _ _);
+      starts = (layout.some, layout.few, layout.least, layout.most, start_val _ c.clear_first.ensures.noughts, rw (c.hold_first.ensures 0) tt, (λ b h. c.hold_first.ensures b ∙ ne_eqb b 0 (omega arith)), start_late _ _);
       sized = (refl, refl);
-      kept = λ b w h. start-kept _ _ c.clear_first.ensures.kept b w h;
+      kept = λ b w h. start_kept _ _ c.clear_first.ensures.kept b w h;
     }

@@ -1,8 +1,8 @@
 use Rattle.std.proofs.Common.{sym, refl, ◌∙◌, arith, length-set}
 use Rattle.routes.specs.Memory.{rest, got, out}
-use Rattle.memory.proofs.Arrivals.{arrives-same}
-use Rattle.memory.proofs.Words.{val-small}
-use Rattle.memory.proofs.Pools.{obtained-free, obtained-apart, obtained-count}
+use Rattle.memory.proofs.Arrivals.{arrives_same}
+use Rattle.memory.proofs.Words.{val_small}
+use Rattle.memory.proofs.Pools.{obtained_free, obtained_apart, obtained-count}
 use Rattle.memory.proofs.Memories.{mark_set}
 use Rattle.memory.proofs.shared.SharedMemory.take_block.Goals as goal
 
@@ -16,8 +16,8 @@ invariant_of-self-in-Some c =
       stacked = self.stacked;
       rowed = self.rowed;
       sixteen = self.sixteen;
-      unheld = obtained-free _ _ _ _ self.marked self.unheld self.apart self.counted _ top.0 top.1;
-      apart = obtained-apart _ _ _ _ self.marked self.unheld self.apart self.counted;
+      unheld = obtained_free _ _ _ _ self.marked self.unheld self.apart self.counted _ top.0 top.1;
+      apart = obtained_apart _ _ _ _ self.marked self.unheld self.apart self.counted;
       counted = obtained-count _ _ _ _ self.marked self.unheld self.apart self.counted _ top.0 free.0 free.1;
       inside = self.inside;
       bound = self.bound;
@@ -27,7 +27,7 @@ pub returns-in-Some : goal.returns-in-Some
 returns-in-Some c =
     let self = c.args.self.now in
     let free = c.in-Some.ensures.free in
-    got _ _ _ free.0 free.1 (λ b w n. refl) (λ w. val-small self.words.now _ w) (arrives-same (sym (mark_set _ _ _ _ _ _ _ _ _ _ _ (omega (arith, self.marked, free.0)))))
+    got _ _ _ free.0 free.1 (λ b w n. refl) (λ w. val_small self.words.now _ w) (arrives_same (sym (mark_set _ _ _ _ _ _ _ _ _ _ _ (omega (arith, self.marked, free.0)))))
 
 pub returns-in-None : goal.returns-in-None
 returns-in-None c = out _ c.in-None.ensures.free (rest _)

@@ -1,9 +1,9 @@
 use Rattle.std.proofs.Common.{refl}
-use Rattle.moves.proofs.Lists.{taken-up-same}
+use Rattle.moves.proofs.Lists.{taken_up_same}
 use Rattle.moves.proofs.list.MoveList.advance.Goals as goal
 
 pub returns-in-Some : goal.returns-in-Some
 returns-in-Some c = let h = c.in-Some.ensures in rw (← h.comes) (refl, h.same.1.1, h.left)
 
 pub returns-in-None : goal.returns-in-None
-returns-in-None c = let h = c.in-None.ensures in rw (← h.comes) (taken-up-same h.same.1.0 h.same.0 h.same.1.1 c.take_up.ensures)
+returns-in-None c = let h = c.in-None.ensures in rw (← h.comes) (taken_up_same h.same.1.0 h.same.0 h.same.1.1 c.take_up.ensures)

@@ -1,5 +1,5 @@
 use Rattle.routes.proofs.laws.build.changes_are_built.Goals as goal
-use Rattle.routes.proofs.Build.Stages.{stage-edit, stage-next, stage-end}
+use Rattle.routes.proofs.Build.Stages.{stage_edit, stage_next, stage_end}
 
 pub returns : goal.returns
-returns c = record { edited = stage-edit; written = stage-next; built = stage-end }
+returns c = record { edited = stage_edit; written = stage_next; built = stage_end }

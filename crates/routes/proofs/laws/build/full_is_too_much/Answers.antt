@@ -1,5 +1,5 @@
 use Rattle.routes.proofs.laws.build.full_is_too_much.Goals as goal
-use Rattle.routes.proofs.Build.Full.{full-much}
+use Rattle.routes.proofs.Build.Full.{full_much}
 
 pub returns : goal.returns
-returns c = full-much
+returns c = full_much

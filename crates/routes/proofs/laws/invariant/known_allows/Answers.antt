@@ -1,5 +1,5 @@
 use Rattle.routes.proofs.laws.invariant.known_allows.Goals as goal
-use Rattle.routes.proofs.Invariant.Mains.{known-ready}
+use Rattle.routes.proofs.Invariant.Mains.{known_ready}
 
 pub returns : goal.returns
-returns c = known-ready
+returns c = known_ready

@@ -1,6 +1,6 @@
 use Rattle.routes.proofs.laws.keys.keys_are_prefixes.Goals as goal
-use Rattle.routes.proofs.Keys.Apart.{prefix-key, keys-apart}
-use Rattle.routes.proofs.Keys.Prefixes.{key-prefix}
+use Rattle.routes.proofs.Keys.Apart.{prefix_key, keys_apart}
+use Rattle.routes.proofs.Keys.Prefixes.{key_prefix}
 
 pub returns : goal.returns
-returns c = record { key = prefix-key; apart = keys-apart; back = key-prefix }
+returns c = record { key = prefix_key; apart = keys_apart; back = key_prefix }

@@ -1,5 +1,5 @@
 use Rattle.routes.proofs.laws.late.fence_arrives.Goals as goal
-use Rattle.routes.proofs.Late.Laws.{fence-is-arriving}
+use Rattle.routes.proofs.Late.Laws.{fence_is_arriving}
 
 pub returns : goal.returns
-returns c = fence-is-arriving
+returns c = fence_is_arriving

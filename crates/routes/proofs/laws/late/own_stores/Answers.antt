@@ -1,5 +1,5 @@
 use Rattle.routes.proofs.laws.late.own_stores.Goals as goal
-use Rattle.routes.proofs.Late.Laws.{none-late, own-stores}
+use Rattle.routes.proofs.Late.Laws.{none_late, own_stores_lem}
 
 pub returns : goal.returns
-returns c = record { none = none-late; own = own-stores }
+returns c = record { none = none_late; own = own_stores_lem }

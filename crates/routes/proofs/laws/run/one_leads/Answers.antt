@@ -1,5 +1,5 @@
 use Rattle.routes.proofs.laws.run.one_leads.Goals as goal
-use Rattle.routes.proofs.Run.Laws.{one-leads-all}
+use Rattle.routes.proofs.Run.Laws.{one_leads_all}
 
 pub returns : goal.returns
-returns c = one-leads-all
+returns c = one_leads_all

@@ -1,5 +1,5 @@
 use Rattle.routes.proofs.laws.run.turn_counts.Goals as goal
-use Rattle.routes.proofs.Run.Laws.{turn-counts, waits-for-questions}
+use Rattle.routes.proofs.Run.Laws.{turn_counts_lem, waits_for_questions}
 
 pub returns : goal.returns
-returns c = record { counts = turn-counts; waits = waits-for-questions }
+returns c = record { counts = turn_counts_lem; waits = waits_for_questions }

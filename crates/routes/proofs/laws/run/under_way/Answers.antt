@@ -1,5 +1,5 @@
 use Rattle.routes.proofs.laws.run.under_way.Goals as goal
-use Rattle.routes.proofs.Run.Laws.{under-way}
+use Rattle.routes.proofs.Run.Laws.{under_way_lem}
 
 pub returns : goal.returns
-returns c = under-way
+returns c = under_way_lem

@@ -1,5 +1,5 @@
 use Rattle.routes.proofs.laws.tree.few_nodes.Goals as goal
-use Rattle.routes.proofs.Tree.Nodes.{nodes-few}
+use Rattle.routes.proofs.Tree.Nodes.{nodes_few}
 
 pub returns : goal.returns
-returns c = nodes-few
+returns c = nodes_few

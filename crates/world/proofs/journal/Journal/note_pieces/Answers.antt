@@ -1,10 +1,10 @@
 use Rattle.std.proofs.Common.{◌≡◌, suc, ◌-◌, take, drop, refl, arith}
 use Rattle.routes.specs.Machine.Begins.{blank}
-use Rattle.world.proofs.Journals.{pieces_none, pieces_more, skip-none}
+use Rattle.world.proofs.Journals.{pieces_none, pieces_more, skip_none}
 use Rattle.world.proofs.journal.Journal.note_pieces.Goals as goal
 
 pub loop-k-init : goal.loop-k-init
-loop-k-init c = (pieces_none c.args.count c.args.pieces.now _, skip-none c.args.count _, refl, omega arith, refl)
+loop-k-init c = (pieces_none c.args.count c.args.pieces.now _, skip_none c.args.count _, refl, omega arith, refl)
 
 pub loop-k-preserved : goal.loop-k-preserved
 loop-k-preserved c =

@@ -1,9 +1,9 @@
 use Rattle.std.proofs.Common.{◌≡◌, refl, ◌∙◌}
 use Rattle.routes.specs.Memory.{Arrives, rest}
-use Rattle.routes.proofs.Late.Arriving.{arrives-on}
+use Rattle.routes.proofs.Late.Arriving.{arrives_on}
 use Rattle.memory.specs.Memories.{mem_of}
 use Rattle.world.specs.Journals.{seen_of}
-use Rattle.world.proofs.Turns.{next-arrived, next-over, next-go, turn-given}
+use Rattle.world.proofs.Turns.{next_arrived, next_over, next_go, turn_given}
 use Rattle.world.proofs.turn.ScheduledWorldWorld.next.Goals as goal
 use Rattle.world.proofs.turn.ScheduledWorldWorld.next.Goals.{in-Begin+else-may_begin, in-Go+else-may_go, in-Arrive, else-loop-test, then-loop-test+in-Over}
 
@@ -11,22 +11,22 @@ pub loop-init : goal.loop-init
 loop-init g c = (rest _, refl)
 
 pub returns-then-may_begin : goal.returns-then-may_begin
-returns-then-may_begin g c = (next-arrived c.begin.result.1 c.begin.result.0 _ _ _ _ c.loop.invariant.0 c.loop.invariant.1 c.begin.ensures.next, turn-given c.begin.result.0 c.loop.invariant.0 c.begin.ensures.allowed)
+returns-then-may_begin g c = (next_arrived c.begin.result.1 c.begin.result.0 _ _ _ _ c.loop.invariant.0 c.loop.invariant.1 c.begin.ensures.next, turn_given c.begin.result.0 c.loop.invariant.0 c.begin.ensures.allowed)
 
 pub returns-then-may_go : goal.returns-then-may_go
 returns-then-may_go g c =
     let h = c.if-may_go.ensures tt in
-    (next-arrived c.go.result.1 c.go.result.0 _ _ _ _ c.loop.invariant.0 c.loop.invariant.1 (next-go c.go.result _ _ _ _ _ c.go.ensures.next h.0 h.1 c.go.ensures.unseen), turn-given c.go.result.0 c.loop.invariant.0 c.go.ensures.allowed)
+    (next_arrived c.go.result.1 c.go.result.0 _ _ _ _ c.loop.invariant.0 c.loop.invariant.1 (next_go c.go.result _ _ _ _ _ c.go.ensures.next h.0 h.1 c.go.ensures.unseen), turn_given c.go.result.0 c.loop.invariant.0 c.go.ensures.allowed)
 
 pub loop-preserved : goal.loop-preserved
 loop-preserved g c = elim c.match-next.branch [
   | in-Begin+else-may_begin w ↦ rw w.self-is c.loop.invariant
   | in-Go+else-may_go w ↦ rw w.self-is c.loop.invariant
-  | in-Arrive w ↦ rw w.self-is (arrives-on c.loop.invariant.0 w.arrive.ensures.arrives, w.arrive.ensures.unseen ∙ c.loop.invariant.1)
+  | in-Arrive w ↦ rw w.self-is (arrives_on c.loop.invariant.0 w.arrive.ensures.arrives, w.arrive.ensures.unseen ∙ c.loop.invariant.1)
 ]
 
 pub returns : goal.returns
 returns g c =
     let left : Arrives (mem_of c.args.self.now.memory.now) (mem_of c.loop-test.self.memory.now) × (seen_of c.loop-test.self.journal.now ≡ seen_of c.args.self.now.journal.now) =
     elim c.loop-test.branch [ else-loop-test w ↦ rw w.self-is c.loop.invariant | then-loop-test+in-Over w ↦ rw w.self-is c.loop.invariant ] in
-    (next-over c.stop.result _ _ _ _ c.stop.ensures.next (c.stop.ensures.unseen ∙ left.1), turn-given c.stop.result.0 left.0 c.stop.ensures.allowed)
+    (next_over c.stop.result _ _ _ _ c.stop.ensures.next (c.stop.ensures.unseen ∙ left.1), turn_given c.stop.result.0 left.0 c.stop.ensures.allowed)

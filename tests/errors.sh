@@ -1,7 +1,7 @@
 #!/bin/sh
 # Plays scripts that go wrong by the program hall, and compares what it prints, what it says on standard error, and its status.
-# The program is built by 'rt check hall'.
-program=$(cd "$(dirname "$0")/.." && pwd)/target/bin/hall
+# The program is built by ./hall.
+program=$(cd "$(dirname "$0")/.." && pwd)/crates/hall/out/hall
 room=$(mktemp -d) || exit 1
 trap 'rm -rf "$room"' EXIT
 cd "$room" || exit 1

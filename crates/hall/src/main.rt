@@ -15,11 +15,12 @@ use source::{LINE_ROOM, play_lines};
 use std::env::{Env, FillError};
 use std::fs::File;
 use std::io::Read;
+use std::process::ExitCode;
 use std::rt::Files;
 use stop::{Complaint, Stop};
 
 // A script went wrong, which has been said on standard error.
-#[derive(Debug, Clone, Copy, Drop)]
+#[derive(Clone, Copy)]
 struct Failed;
 
 // Says on standard error why a script stopped, and fails if that is an error.
@@ -90,10 +91,18 @@ fn play_others<R: Env + Files + Print + Eprint>(rt: &R, room: &mut [u8]) -> Resu
     Ok(())
 }
 
-fn main(rt: HostRuntime) -> Result<(), Failed> {
+// Plays the scripts that the arguments name, or standard input if there is none.
+fn play_all(rt: &HostRuntime) -> Result<(), Failed> {
     let mut room = [0u8; LINE_ROOM];
-    if play_argument(&rt, 1, &mut room)? {
-        return play_others(&rt, &mut room);
+    if play_argument(rt, 1, &mut room)? {
+        return play_others(rt, &mut room);
     }
-    play(&rt, "stdin", &mut rt.stdin(), &mut room)
+    play(rt, "stdin", &mut rt.stdin(), &mut room)
+}
+
+fn main(rt: HostRuntime) -> ExitCode {
+    match play_all(&rt) {
+        Ok(()) => ExitCode::SUCCESS,
+        Err(Failed) => ExitCode::FAILURE,
+    }
 }

@@ -1,11 +1,11 @@
 #!/bin/sh
 # Tries the planted bugs of tests/planted, for which the gate has no time: the prover must refuse each.
-# planted.sh [CRATE..]: those of the named crates, or all. Each takes as long as a check of its crate from nothing.
+# planted.sh [CRATE..]: those of the named crates, or all. Each takes as long as a check of what it changes, over what `rt check` kept.
 # It works in a copy of the repository whose crates have these edits in place of the gate's.
 here=$(cd "$(dirname "$0")/.." && pwd)
 room=$(mktemp -d) || exit 1
 trap 'rm -rf "$room"' EXIT
-cp -R "$here/crates" "$here/crates.txt" "$room" && cp -R "$here/target" "$room" 2>/dev/null
+cp -R "$here/crates" "$here/crates.txt" "$room" || exit 1
 rm -rf "$room"/crates/*/must-fail
 [ $# -gt 0 ] || set -- $(ls "$here/tests/planted")
 for c in "$@"; do

@@ -42,7 +42,7 @@ pub extern "C" fn dezhavin_begin_update(
 // What the processor asks of the memory in its next turn.
 #[unsafe(no_mangle)]
 pub extern "C" fn dezhavin_act(cpu: u32, registers: &[u64], own: &[u64], out: &mut ActWords) -> u32
-    ensures { By result (λ r. ActDone cpu registers.now own.now r out.old out.new) }
+    ensures { By result (λ r. ActDone cpu registers.now own.now r out.entry.now out.exit.now) }
 {
     status(ask(cpu, registers, own, out))
 }

@@ -7,7 +7,7 @@ use crate::structs::{ActWords, ToldWords, act_words, told_words};
 use port::{after, next_act, save};
 
 pub fn ask(cpu: u32, registers: &[u64], own: &[u64], out: &mut ActWords) -> Result<(), Refusal>
-    ensures { ActDone cpu registers.now own.now result out.old out.new }
+    ensures { ActDone cpu registers.now own.now result out.entry.now out.exit.now }
 {
     let c = load(registers)?;
     match next_act(&c, cpu, own) {

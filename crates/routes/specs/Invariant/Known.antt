@@ -41,14 +41,14 @@ pub record Known (m : Mem) (es : List Event) (t : ℕ) (c : Cpus) : Type 0 where
   pub inv : Inv m lock ghosts trail state t c
   pub aged : Aged m.cpus state c.work
 
--- what a turn leads to: what was seen is explained, also without what was told, and all is known again
-pub record After (n : Mem) (es : List Event) (t : ℕ) (c : Cpus) (p : ℕ) (told : Option Answer) : Type 0 where
-  pub known : Known n (seen_of p told es) t c
-  pub turned : Explained n.cpus n.blocks (Turned p ∷ es)
-
 -- the same of the registers, own words and pieces that `turns` was lent
 pub record Between (m : Mem) (es : List Event) (t : ℕ) (cs : List Cpu) (own : List ℕ) (ps : List Piece) : Type 0 where
   pub known : Known m es t (cpus_of cs own)
   pub registers : length cs ≡ m.cpus
   pub words : length own ≡ 4096 * m.cpus
   pub pieces : length ps ≡ 8
+
+-- what a turn leads to: what was seen is explained, also without what was told, and all is known again
+pub record After (n : Mem) (es : List Event) (t : ℕ) (c : Cpus) (p : ℕ) (told : Option Answer) : Type 0 where
+  pub known : Known n (seen_of p told es) t c
+  pub turned : Explained n.cpus n.blocks (Turned p ∷ es)

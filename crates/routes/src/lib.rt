@@ -9,6 +9,7 @@ ghost use Rattle.routes.specs.Promise.{FindsLongest, OneRoute, OnlyWhatFits, Old
 ghost use Rattle.routes.specs.Examples.{ExamplesHold};
 ghost use Rattle.routes.specs.Machine.Cpus.{Ready, Stepped, Begun};
 
+mod access;
 pub mod act;
 mod header;
 pub mod laws;
@@ -22,7 +23,7 @@ pub mod work;
 
 use lookup::{LookupNext, step_lookup};
 pub use prefix::Prefix;
-pub use refusal::{Refusal, make_prefix};
+pub use refusal::{Refusal, UnknownRefusal, make_prefix};
 use update::{UpdateNext, step_update};
 use work::{Work, begin_update, note_pieces};
 

@@ -5,8 +5,8 @@ ghost use Rattle.routes.specs.Machine.Acts.{MayDo};
 ghost use Rattle.routes.specs.Machine.Lookups.{LookupOk, LookupMoved, lookup_act};
 ghost use Rattle.routes.specs.Tree.Walks.{better as better_of};
 
-use super::header::{announce, leave, load_epoch, load_root};
-use super::node::load_slot;
+use super::access::{load, swap};
+use super::header::{ACTIVE, EPOCH, HEADER, ROOT};
 use super::{Answer, Memory};
 use words::{Slot, block_of, nib};
 
@@ -62,15 +62,16 @@ pub fn step_lookup<M: Memory>(l: Lookup, w: &mut M, p: u32) -> LookupNext
 {
     match l {
         Lookup::Epoch { address } => {
-            let epoch = load_epoch(w, p);
+            let epoch = load(w, p, HEADER, EPOCH);
             LookupNext::On(Lookup::Announce { address, epoch })
         }
         Lookup::Announce { address, epoch } => {
-            let _was = announce(w, p, epoch);
+            // all others see the announcement, for a swap is also a fence
+            let _was = swap(w, p, HEADER, ACTIVE + p, 0, epoch + 1);
             LookupNext::On(Lookup::Root { address, epoch })
         }
         Lookup::Root { address, epoch } => {
-            let node = block_of(load_root(w, p));
+            let node = block_of(load(w, p, HEADER, ROOT));
             if node == 0 {
                 LookupNext::On(Lookup::Leave {
                     epoch,
@@ -93,7 +94,7 @@ pub fn step_lookup<M: Memory>(l: Lookup, w: &mut M, p: u32) -> LookupNext
             node,
             best,
         } => {
-            let slot = Slot::unpack(load_slot(w, p, node, nib(level, address)));
+            let slot = Slot::unpack(load(w, p, node, nib(level, address)));
             let best = better(level, slot, best);
             if slot.child == 0 || level == 8 {
                 LookupNext::On(Lookup::Leave { epoch, best })
@@ -108,7 +109,7 @@ pub fn step_lookup<M: Memory>(l: Lookup, w: &mut M, p: u32) -> LookupNext
             }
         }
         Lookup::Leave { epoch, best } => {
-            let _was = leave(w, p, epoch);
+            let _was = swap(w, p, HEADER, ACTIVE + p, epoch + 1, 0);
             LookupNext::Told(best)
         }
     }

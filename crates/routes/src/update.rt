@@ -62,7 +62,7 @@ pub fn step_update<M: Memory>(
     ensures unseen { M.seen w.new ≡ M.seen w.old }
 {
     match phase {
-        Phase::Refuse => UpdateNext::Told(Answer::No(Refusal::PieceCount.number())),
+        Phase::Refuse => UpdateNext::Told(Answer::No(u8::from(Refusal::PieceCount))),
         Phase::Lock => UpdateNext::On(job, after_lock(try_lock(w, p))),
         Phase::Check(s) => check::step_check(job, s, w, p, own),
         Phase::Obtain(s) => obtain::step_obtain(job, s, w, p, own),

@@ -4,8 +4,8 @@ ghost use Rattle.routes.specs.declared.update.build.Build.TheVariants.{Read as A
 ghost use Rattle.routes.specs.Machine.Builds.{BuildOk, BuildReady, BuildMoved, build_after, build_words, starting as starting_of, after_read, after_edit, after_write};
 
 use super::super::Memory;
-use super::super::header::load_root;
-use super::super::node::{load_word, store_word};
+use super::super::access::{load, store};
+use super::super::header::{HEADER, ROOT};
 use super::check::prefix_at;
 use super::job::Job;
 use super::publish::Publish;
@@ -101,7 +101,7 @@ fn read<M: Memory>(
     ensures unseen { M.seen w.new ≡ M.seen w.old }
 {
     let prefix = prefix_at(own, k);
-    let x = load_word(w, p, node, word);
+    let x = load(w, p, node, word);
     note_word(own, level, word, x);
     note_path(own, job.retired, level, node);
     let child = block_of(own[image_at(level, nib(level, prefix.bits))]);
@@ -187,7 +187,7 @@ fn write<M: Memory>(
     ensures moved { BuildMoved p job (AtWrite k first level word) (M.mem w.old) own.old result (M.mem w.new) own.new }
     ensures unseen { M.seen w.new ≡ M.seen w.old }
 {
-    store_word(
+    store(
         w,
         p,
         fresh_at(own, first + level as u32),
@@ -204,7 +204,7 @@ pub fn step_build<M: Memory>(job: Job, s: Build, w: &mut M, p: u32, own: &mut [u
 {
     match s {
         Build::Root => {
-            let root = block_of(load_root(w, p));
+            let root = block_of(load(w, p, HEADER, ROOT));
             starting(Job { root, ..job }, 0)
         }
         Build::Read {

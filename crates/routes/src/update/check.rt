@@ -3,8 +3,9 @@ ghost use Rattle.std.specs.Prelude.{◌≡◌, ◌<◌, ◌≤◌, length};
 ghost use Rattle.routes.specs.declared.update.check.Check.TheVariants.{Root as AtRoot, Slot as AtSlot, Route as AtRoute};
 ghost use Rattle.routes.specs.Machine.Checks.{AtPiece, CleanIn, CheckReady, CheckMoved, piece_in, passed as passed_of, looked_at, entered, found_route, decided as decided_of};
 
-use super::super::header::{load_root, unlock};
-use super::super::node::{load_route, load_slot};
+use super::super::access::load;
+use super::super::header::{HEADER, ROOT, unlock};
+use super::super::node::ROUTES;
 use super::super::prefix::Prefix;
 use super::super::refusal::{Refusal, make_prefix};
 use super::super::{Answer, Memory};
@@ -110,7 +111,7 @@ fn check_root<M: Memory>(job: Job, k: u32, w: &mut M, p: u32, own: &[u64]) -> Up
     ensures unseen { M.seen w.new ≡ M.seen w.old }
 {
     let prefix = prefix_at(own, k);
-    let root = block_of(load_root(w, p));
+    let root = block_of(load(w, p, HEADER, ROOT));
     decided(job, enter(job, k, prefix.len, 0, root))
 }
 
@@ -128,7 +129,7 @@ fn check_slot<M: Memory>(
     ensures unseen { M.seen w.new ≡ M.seen w.old }
 {
     let prefix = prefix_at(own, k);
-    let child = block_of(load_slot(w, p, node, nib(level, prefix.bits)));
+    let child = block_of(load(w, p, node, nib(level, prefix.bits)));
     decided(job, enter(job, k, prefix.len, level + 1, child))
 }
 
@@ -138,7 +139,8 @@ fn check_route<M: Memory>(job: Job, k: u32, node: u32, w: &mut M, p: u32, own: &
     ensures unseen { M.seen w.new ≡ M.seen w.old }
 {
     let prefix = prefix_at(own, k);
-    let word = load_route(w, p, node, route_place(prefix.len, prefix.bits));
+    let place = ROUTES + route_place(prefix.len, prefix.bits);
+    let word = load(w, p, node, place);
     decided(job, find_route(job, k, prefix.len, word))
 }
 
@@ -154,7 +156,7 @@ pub fn step_check<M: Memory>(job: Job, s: Check, w: &mut M, p: u32, own: &[u64])
         Check::Route { k, node } => check_route(job, k, node, w, p, own),
         Check::Reject { why } => {
             let _was = unlock(w, p);
-            UpdateNext::Told(Answer::No(why.number()))
+            UpdateNext::Told(Answer::No(u8::from(why)))
         }
     }
 }

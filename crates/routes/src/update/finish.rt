@@ -2,8 +2,8 @@
 ghost use Rattle.std.specs.Prelude.{◌≡◌};
 ghost use Rattle.routes.specs.Machine.Finishes.{FinishReady, FinishMoved, finishing as finishing_of};
 
+use super::super::access::give_back;
 use super::super::header::unlock;
-use super::super::pool::give_back;
 use super::super::{Answer, Memory};
 use super::job::Job;
 use super::{Phase, UpdateNext};

@@ -3,8 +3,9 @@ ghost use Rattle.std.specs.Prelude.{◌≡◌};
 ghost use Rattle.routes.specs.declared.update.obtain.Obtain.TheVariants.{Get as AtGet, Undo as AtUndo};
 ghost use Rattle.routes.specs.Machine.Obtains.{ObtainReady, ObtainMoved, gathering as gathering_of, undoing as undoing_of};
 
+use super::super::access::give_back;
 use super::super::header::unlock;
-use super::super::pool::{give_back, obtain};
+use super::super::pool::obtain;
 use super::super::{Answer, Memory};
 use super::build::Build;
 use super::job::Job;

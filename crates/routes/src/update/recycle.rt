@@ -5,8 +5,9 @@ ghost use Rattle.routes.specs.declared.update.recycle.Recycle.TheVariants.{SetHe
 ghost use Rattle.routes.specs.Machine.Recycles.{RecycleReady, RecycleMoved, oldest as oldest_of, unlinked as unlinked_of};
 
 use super::super::Memory;
-use super::super::header::{load_limbo_head, store_limbo_head, store_limbo_tail};
-use super::super::node::{load_next_retired, load_retired_at};
+use super::super::access::{load, store};
+use super::super::header::{HEADER, LIMBO_HEAD, LIMBO_TAIL};
+use super::super::node::{NEXT_RETIRED, RETIRED_AT};
 use super::job::Job;
 use super::obtain::{gathering, undoing};
 use super::scan::{GracePeriod, Scan};
@@ -76,7 +77,7 @@ fn set_head<M: Memory>(
     ensures moved { RecycleMoved p job (AtSetHead node next grace) (M.mem w.old) own.old result (M.mem w.new) own.new }
     ensures unseen { M.seen w.new ≡ M.seen w.old }
 {
-    store_limbo_head(w, p, next);
+    store(w, p, HEADER, LIMBO_HEAD, u64::from(next));
     reuse(own, job.got, node, grace);
     unlinked(
         Job {
@@ -99,18 +100,18 @@ pub fn step_recycle<M: Memory>(
     ensures unseen { M.seen w.new ≡ M.seen w.old }
 {
     match s {
-        Recycle::Head => oldest(job, block_of(load_limbo_head(w, p))),
+        Recycle::Head => oldest(job, block_of(load(w, p, HEADER, LIMBO_HEAD))),
         Recycle::RetiredAt { node } => {
-            let stamp = load_retired_at(w, p, node);
+            let stamp = load(w, p, node, RETIRED_AT);
             UpdateNext::On(job, Phase::Scan(Scan::ForNode { q: 0, node, stamp }))
         }
         Recycle::Next { node, grace } => {
-            let next = block_of(load_next_retired(w, p, node));
+            let next = block_of(load(w, p, node, NEXT_RETIRED));
             UpdateNext::On(job, Phase::Recycle(Recycle::SetHead { node, next, grace }))
         }
         Recycle::SetHead { node, next, grace } => set_head(job, node, next, grace, w, p, own),
         Recycle::SetTail => {
-            store_limbo_tail(w, p, 0);
+            store(w, p, HEADER, LIMBO_TAIL, 0);
             gathering(job)
         }
     }

@@ -4,11 +4,9 @@ ghost use Rattle.routes.specs.declared.update.retire.Retire.TheVariants.{SetNext
 ghost use Rattle.routes.specs.Machine.Retires.{RetireReady, RetireMoved, follower_in, after_epoch, after_next, after_tail};
 
 use super::super::Memory;
-use super::super::header::{
-    load_epoch, load_limbo_tail, store_epoch, store_limbo_head, store_limbo_tail,
-};
-use super::super::node::{store_next_retired, store_retired_at};
-use super::super::pool::fence;
+use super::super::access::{fence, load, store};
+use super::super::header::{EPOCH, HEADER, LIMBO_HEAD, LIMBO_TAIL};
+use super::super::node::{NEXT_RETIRED, RETIRED_AT};
 use super::Phase;
 use super::job::Job;
 use super::scan::Scan;
@@ -81,7 +79,8 @@ fn set_next<M: Memory>(job: Job, i: u32, epoch: u64, w: &mut M, p: u32, own: &[u
     ensures moved { RetireMoved p job (AtSetNext i epoch) (M.mem w.old) own.now result (M.mem w.new) }
     ensures unseen { M.seen w.new ≡ M.seen w.old }
 {
-    store_next_retired(w, p, retired_at(own, i), follower(job, i, own));
+    let next = u64::from(follower(job, i, own));
+    store(w, p, retired_at(own, i), NEXT_RETIRED, next);
     after_next(job, i, epoch)
 }
 
@@ -92,29 +91,30 @@ pub fn step_retire<M: Memory>(job: Job, s: Retire, w: &mut M, p: u32, own: &[u64
 {
     match s {
         Retire::Epoch => {
-            let epoch = load_epoch(w, p);
+            let epoch = load(w, p, HEADER, EPOCH);
             Phase::Retire(Retire::SetEpoch { epoch })
         }
         Retire::SetEpoch { epoch } => {
-            store_epoch(w, p, epoch + 1);
+            store(w, p, HEADER, EPOCH, epoch + 1);
             after_epoch(job, epoch)
         }
         Retire::SetAt { i, epoch } => {
-            store_retired_at(w, p, retired_at(own, i), epoch);
+            store(w, p, retired_at(own, i), RETIRED_AT, epoch);
             Phase::Retire(Retire::SetNext { i, epoch })
         }
         Retire::SetNext { i, epoch } => set_next(job, i, epoch, w, p, own),
-        Retire::Tail => after_tail(block_of(load_limbo_tail(w, p))),
+        Retire::Tail => after_tail(block_of(load(w, p, HEADER, LIMBO_TAIL))),
         Retire::SetHead => {
-            store_limbo_head(w, p, retired_at(own, 0));
+            store(w, p, HEADER, LIMBO_HEAD, u64::from(retired_at(own, 0)));
             Phase::Retire(Retire::SetTail)
         }
         Retire::Link { tail } => {
-            store_next_retired(w, p, tail, retired_at(own, 0));
+            store(w, p, tail, NEXT_RETIRED, u64::from(retired_at(own, 0)));
             Phase::Retire(Retire::SetTail)
         }
         Retire::SetTail => {
-            store_limbo_tail(w, p, retired_at(own, job.retired - 1));
+            let last = u64::from(retired_at(own, job.retired - 1));
+            store(w, p, HEADER, LIMBO_TAIL, last);
             Phase::Retire(Retire::Fence)
         }
         Retire::Fence => {

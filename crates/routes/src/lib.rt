@@ -21,10 +21,11 @@ mod refusal;
 pub mod update;
 pub mod work;
 
-use lookup::{LookupNext, step_lookup};
+use lookup::step_lookup;
 pub use prefix::Prefix;
 pub use refusal::{Refusal, UnknownRefusal, make_prefix};
-use update::{UpdateNext, step_update};
+use std::ops::ControlFlow::{Break, Continue};
+use update::step_update;
 use work::{Work, begin_update, note_pieces};
 
 #[derive(Clone, Copy)]
@@ -150,28 +151,23 @@ impl Cpu {
         ensures stepped { Stepped p (M.mem w.old) self.old own.old result (M.mem w.new) self.new own.new }
         ensures unseen { M.seen w.new ≡ M.seen w.old }
     {
-        match self.work {
-            Work::Idle => None,
-            Work::Lookup(l) => match step_lookup(l, w, p) {
-                LookupNext::On(next) => {
-                    self.work = Work::Lookup(next);
-                    None
-                }
-                LookupNext::Told(answer) => {
-                    self.work = Work::Idle;
-                    Some(answer)
-                }
-            },
-            Work::Update(job, phase) => match step_update(job, phase, w, p, own) {
-                UpdateNext::On(next, then) => {
-                    self.work = Work::Update(next, then);
-                    None
-                }
-                UpdateNext::Told(answer) => {
-                    self.work = Work::Idle;
-                    Some(answer)
-                }
-            },
+        let next = match self.work {
+            Work::Idle => return None,
+            Work::Lookup(l) => step_lookup(l, w, p).map_continue(Work::Lookup),
+            Work::Update(job, phase) => step_update(job, phase, w, p, own).map_continue(|(
+                job,
+                phase,
+            )| Work::Update(job, phase)),
+        };
+        match next {
+            Continue(work) => {
+                self.work = work;
+                None
+            }
+            Break(answer) => {
+                self.work = Work::Idle;
+                Some(answer)
+            }
         }
     }
 }

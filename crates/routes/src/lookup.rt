@@ -8,6 +8,8 @@ ghost use Rattle.routes.specs.Tree.Walks.{better as better_of};
 use super::access::{load, swap};
 use super::header::{ACTIVE, EPOCH, HEADER, ROOT};
 use super::{Answer, Memory};
+use std::ops::ControlFlow;
+use std::ops::ControlFlow::{Break, Continue};
 use words::{Slot, block_of, nib};
 
 // Where a lookup is: its address, the epoch that it loaded, and on its way down the level, the node and the longest route so far.
@@ -37,11 +39,8 @@ pub enum Lookup {
     },
 }
 
-#[derive(Clone, Copy)]
-pub enum LookupNext {
-    On(Lookup),
-    Told(Answer),
-}
+// A lookup that is still under way, or its answer.
+pub type LookupNext = ControlFlow<Answer, Lookup>;
 
 // The route of a slot at this level, if it has one, is longer than what was found above.
 fn better(level: u8, slot: Slot, best: Answer) -> Answer
@@ -63,22 +62,22 @@ pub fn step_lookup<M: Memory>(l: Lookup, w: &mut M, p: u32) -> LookupNext
     match l {
         Lookup::Epoch { address } => {
             let epoch = load(w, p, HEADER, EPOCH);
-            LookupNext::On(Lookup::Announce { address, epoch })
+            Continue(Lookup::Announce { address, epoch })
         }
         Lookup::Announce { address, epoch } => {
             // all others see the announcement, for a swap is also a fence
             let _was = swap(w, p, HEADER, ACTIVE + p, 0, epoch + 1);
-            LookupNext::On(Lookup::Root { address, epoch })
+            Continue(Lookup::Root { address, epoch })
         }
         Lookup::Root { address, epoch } => {
             let node = block_of(load(w, p, HEADER, ROOT));
             if node == 0 {
-                LookupNext::On(Lookup::Leave {
+                Continue(Lookup::Leave {
                     epoch,
                     best: Answer::Nothing,
                 })
             } else {
-                LookupNext::On(Lookup::Node {
+                Continue(Lookup::Node {
                     address,
                     epoch,
                     level: 0,
@@ -97,9 +96,9 @@ pub fn step_lookup<M: Memory>(l: Lookup, w: &mut M, p: u32) -> LookupNext
             let slot = Slot::unpack(load(w, p, node, nib(level, address)));
             let best = better(level, slot, best);
             if slot.child == 0 || level == 8 {
-                LookupNext::On(Lookup::Leave { epoch, best })
+                Continue(Lookup::Leave { epoch, best })
             } else {
-                LookupNext::On(Lookup::Node {
+                Continue(Lookup::Node {
                     address,
                     epoch,
                     level: level + 1,
@@ -110,7 +109,7 @@ pub fn step_lookup<M: Memory>(l: Lookup, w: &mut M, p: u32) -> LookupNext
         }
         Lookup::Leave { epoch, best } => {
             let _was = swap(w, p, HEADER, ACTIVE + p, epoch + 1, 0);
-            LookupNext::Told(best)
+            Break(best)
         }
     }
 }

@@ -11,6 +11,7 @@ use super::job::Job;
 use super::publish::Publish;
 use super::{Phase, UpdateNext};
 use own::{edit_piece, fresh_at, image_at, image_word, note_path, note_word};
+use std::ops::ControlFlow::Continue;
 use words::{block_of, nib};
 
 #[derive(Clone, Copy)]
@@ -42,9 +43,9 @@ fn starting(job: Job, k: u32) -> UpdateNext
     ensures { result ≡ starting_of job k }
 {
     if job.root == 0 {
-        UpdateNext::On(job, Phase::Build(Build::Edit { k, have: 0 }))
+        Continue((job, Phase::Build(Build::Edit { k, have: 0 })))
     } else {
-        UpdateNext::On(
+        Continue((
             job,
             Phase::Build(Build::Read {
                 k,
@@ -52,7 +53,7 @@ fn starting(job: Job, k: u32) -> UpdateNext
                 word: 0,
                 node: job.root,
             }),
-        )
+        ))
     }
 }
 
@@ -62,7 +63,7 @@ fn after_read(job: Job, k: u32, level: u8, word: u32, node: u32, deep: u8, child
     ensures { result ≡ after_read job k level word node deep child }
 {
     if word < 30 {
-        UpdateNext::On(
+        Continue((
             job,
             Phase::Build(Build::Read {
                 k,
@@ -70,11 +71,11 @@ fn after_read(job: Job, k: u32, level: u8, word: u32, node: u32, deep: u8, child
                 word: word + 1,
                 node,
             }),
-        )
+        ))
     } else if level == deep || child == 0 {
-        UpdateNext::On(job, Phase::Build(Build::Edit { k, have: level + 1 }))
+        Continue((job, Phase::Build(Build::Edit { k, have: level + 1 })))
     } else {
-        UpdateNext::On(
+        Continue((
             job,
             Phase::Build(Build::Read {
                 k,
@@ -82,7 +83,7 @@ fn after_read(job: Job, k: u32, level: u8, word: u32, node: u32, deep: u8, child
                 word: 0,
                 node: child,
             }),
-        )
+        ))
     }
 }
 
@@ -120,7 +121,7 @@ fn after_edit(job: Job, k: u32, have: u8, levels: u32, root: u32) -> UpdateNext
         root,
         ..job
     };
-    UpdateNext::On(
+    Continue((
         job,
         Phase::Build(Build::Write {
             k,
@@ -128,7 +129,7 @@ fn after_edit(job: Job, k: u32, have: u8, levels: u32, root: u32) -> UpdateNext
             level: 0,
             word: 0,
         }),
-    )
+    ))
 }
 
 fn edit(job: Job, k: u32, have: u8, own: &mut [u64]) -> UpdateNext
@@ -147,7 +148,7 @@ fn after_write(job: Job, k: u32, first: u32, level: u8, word: u32) -> UpdateNext
     ensures { result ≡ after_write job k first level word }
 {
     if word < 30 {
-        UpdateNext::On(
+        Continue((
             job,
             Phase::Build(Build::Write {
                 k,
@@ -155,9 +156,9 @@ fn after_write(job: Job, k: u32, first: u32, level: u8, word: u32) -> UpdateNext
                 level,
                 word: word + 1,
             }),
-        )
+        ))
     } else if first + level as u32 + 1 < job.used {
-        UpdateNext::On(
+        Continue((
             job,
             Phase::Build(Build::Write {
                 k,
@@ -165,11 +166,11 @@ fn after_write(job: Job, k: u32, first: u32, level: u8, word: u32) -> UpdateNext
                 level: level + 1,
                 word: 0,
             }),
-        )
+        ))
     } else if k + 1 < job.size {
         starting(job, k + 1)
     } else {
-        UpdateNext::On(job, Phase::Publish(Publish::FenceNodes))
+        Continue((job, Phase::Publish(Publish::FenceNodes)))
     }
 }
 

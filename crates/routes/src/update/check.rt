@@ -13,6 +13,7 @@ use super::job::Job;
 use super::obtain::Obtain;
 use super::{Phase, UpdateNext};
 use own::{Earlier, last_before, piece_at};
+use std::ops::ControlFlow::{Break, Continue};
 use words::{block_of, nib, route_place};
 
 // Piece k is in hand: at first it is looked at by itself, then looked up from the root down to its route.
@@ -35,9 +36,9 @@ fn passed(job: Job, k: u32, len: u8) -> UpdateNext
         ..job
     };
     if k + 1 < job.size {
-        UpdateNext::On(job, Phase::Check(Check::Piece { k: k + 1 }))
+        Continue((job, Phase::Check(Check::Piece { k: k + 1 })))
     } else {
-        UpdateNext::On(job, Phase::Obtain(Obtain::Get))
+        Continue((job, Phase::Obtain(Obtain::Get)))
     }
 }
 
@@ -54,7 +55,7 @@ fn look_at(job: Job, k: u32, own: &[u64]) -> Result<UpdateNext, Refusal>
     match last_before(own, k) {
         Earlier::Put => Ok(passed(job, k, prefix.len)),
         Earlier::Taken => Err(Refusal::AbsentRoute),
-        Earlier::Never => Ok(UpdateNext::On(job, Phase::Check(Check::Root { k }))),
+        Earlier::Never => Ok(Continue((job, Phase::Check(Check::Root { k })))),
     }
 }
 
@@ -66,9 +67,9 @@ fn enter(job: Job, k: u32, len: u8, level: u8, node: u32) -> Result<UpdateNext, 
         return Err(Refusal::AbsentRoute);
     }
     if level == len / 4 {
-        Ok(UpdateNext::On(job, Phase::Check(Check::Route { k, node })))
+        Ok(Continue((job, Phase::Check(Check::Route { k, node }))))
     } else {
-        Ok(UpdateNext::On(job, Phase::Check(Check::Slot { k, level, node })))
+        Ok(Continue((job, Phase::Check(Check::Slot { k, level, node }))))
     }
 }
 
@@ -87,10 +88,7 @@ fn find_route(job: Job, k: u32, len: u8, word: u64) -> Result<UpdateNext, Refusa
 fn decided(job: Job, r: Result<UpdateNext, Refusal>) -> UpdateNext
     ensures { result ≡ decided_of job r }
 {
-    match r {
-        Ok(next) => next,
-        Err(why) => UpdateNext::On(job, Phase::Check(Check::Reject { why })),
-    }
+    r.unwrap_or_else(|why| Continue((job, Phase::Check(Check::Reject { why }))))
 }
 
 // The prefix of piece k, which is clean.
@@ -156,7 +154,7 @@ pub fn step_check<M: Memory>(job: Job, s: Check, w: &mut M, p: u32, own: &[u64])
         Check::Route { k, node } => check_route(job, k, node, w, p, own),
         Check::Reject { why } => {
             let _was = unlock(w, p);
-            UpdateNext::Told(Answer::No(u8::from(why)))
+            Break(Answer::No(u8::from(why)))
         }
     }
 }

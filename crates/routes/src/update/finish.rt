@@ -8,6 +8,7 @@ use super::super::{Answer, Memory};
 use super::job::Job;
 use super::{Phase, UpdateNext};
 use own::fresh_at;
+use std::ops::ControlFlow::{Break, Continue};
 
 #[derive(Clone, Copy)]
 pub enum Finish {
@@ -38,11 +39,11 @@ pub fn step_finish<M: Memory>(job: Job, s: Finish, w: &mut M, p: u32, own: &[u64
                 used: job.used + 1,
                 ..job
             };
-            UpdateNext::On(job, finishing(job))
+            Continue((job, finishing(job)))
         }
         Finish::Unlock => {
             let _was = unlock(w, p);
-            UpdateNext::Told(Answer::Done)
+            Break(Answer::Done)
         }
     }
 }

@@ -12,6 +12,7 @@ use super::job::Job;
 use super::recycle::Recycle;
 use super::{Phase, UpdateNext};
 use own::fresh_at;
+use std::ops::ControlFlow::{Break, Continue};
 
 #[derive(Clone, Copy)]
 pub enum Obtain {
@@ -26,9 +27,9 @@ pub fn gathering(job: Job) -> UpdateNext
     ensures { result ≡ gathering_of job }
 {
     if job.got < job.need {
-        UpdateNext::On(job, Phase::Obtain(Obtain::Get))
+        Continue((job, Phase::Obtain(Obtain::Get)))
     } else {
-        UpdateNext::On(job, Phase::Build(Build::Root))
+        Continue((job, Phase::Build(Build::Root)))
     }
 }
 
@@ -37,9 +38,9 @@ pub fn undoing(job: Job) -> UpdateNext
     ensures { result ≡ undoing_of job }
 {
     if job.got > 0 {
-        UpdateNext::On(job, Phase::Obtain(Obtain::Undo))
+        Continue((job, Phase::Obtain(Obtain::Undo)))
     } else {
-        UpdateNext::On(job, Phase::Obtain(Obtain::Full))
+        Continue((job, Phase::Obtain(Obtain::Full)))
     }
 }
 
@@ -56,7 +57,7 @@ fn get<M: Memory>(job: Job, w: &mut M, p: u32, own: &mut [u64]) -> UpdateNext
                 ..job
             })
         }
-        None => UpdateNext::On(job, Phase::Recycle(Recycle::Head)),
+        None => Continue((job, Phase::Recycle(Recycle::Head))),
     }
 }
 
@@ -80,7 +81,7 @@ pub fn step_obtain<M: Memory>(job: Job, s: Obtain, w: &mut M, p: u32, own: &mut 
         Obtain::Undo => undo(job, w, p, own),
         Obtain::Full => {
             let _was = unlock(w, p);
-            UpdateNext::Told(Answer::Full)
+            Break(Answer::Full)
         }
     }
 }

@@ -13,6 +13,7 @@ use super::obtain::{gathering, undoing};
 use super::scan::{GracePeriod, Scan};
 use super::{Phase, UpdateNext};
 use own::keep_fresh;
+use std::ops::ControlFlow::Continue;
 use words::block_of;
 
 // grace: what the scan has shown of the node.
@@ -41,7 +42,7 @@ fn oldest(job: Job, node: u32) -> UpdateNext
     if node == 0 {
         undoing(job)
     } else {
-        UpdateNext::On(job, Phase::Recycle(Recycle::RetiredAt { node }))
+        Continue((job, Phase::Recycle(Recycle::RetiredAt { node })))
     }
 }
 
@@ -58,7 +59,7 @@ fn unlinked(job: Job, next: u32) -> UpdateNext
     ensures { result ≡ unlinked_of job next }
 {
     if next == 0 {
-        UpdateNext::On(job, Phase::Recycle(Recycle::SetTail))
+        Continue((job, Phase::Recycle(Recycle::SetTail)))
     } else {
         gathering(job)
     }
@@ -103,11 +104,11 @@ pub fn step_recycle<M: Memory>(
         Recycle::Head => oldest(job, block_of(load(w, p, HEADER, LIMBO_HEAD))),
         Recycle::RetiredAt { node } => {
             let stamp = load(w, p, node, RETIRED_AT);
-            UpdateNext::On(job, Phase::Scan(Scan::ForNode { q: 0, node, stamp }))
+            Continue((job, Phase::Scan(Scan::ForNode { q: 0, node, stamp })))
         }
         Recycle::Next { node, grace } => {
             let next = block_of(load(w, p, node, NEXT_RETIRED));
-            UpdateNext::On(job, Phase::Recycle(Recycle::SetHead { node, next, grace }))
+            Continue((job, Phase::Recycle(Recycle::SetHead { node, next, grace })))
         }
         Recycle::SetHead { node, next, grace } => set_head(job, node, next, grace, w, p, own),
         Recycle::SetTail => {

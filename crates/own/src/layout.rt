@@ -1,6 +1,11 @@
-// Where things stand among a processor's 4,096 own words.
+// Where things stand among a processor's own words.
 ghost use Rattle.std.specs.Prelude.{◌≡◌, ◌<◌, ◌≤◌};
 ghost use Rattle.own.specs.Layout.{piece_at, image_at};
+
+// How many words a processor has of its own.
+pub const OWN_WORDS: usize = 4096;
+// They are lent by whoever takes the turns, in one row; the parts of it have fixed places.
+pub type OwnWords = [u64; OWN_WORDS];
 
 // The 8 pieces of a change, 4 words each: whether it puts, length, bits, what is told.
 pub const PIECES: usize = 0;

@@ -22,6 +22,7 @@ pub mod update;
 pub mod work;
 
 use lookup::step_lookup;
+use own::OwnWords;
 pub use prefix::Prefix;
 pub use refusal::{Refusal, UnknownRefusal, make_prefix};
 use std::ops::ControlFlow::{Break, Continue};
@@ -138,6 +139,12 @@ impl Cpu {
                 self.work = Work::Lookup(lookup::Lookup::Epoch { address });
             }
             Ask::Change(size) => {
+                let Some(own) = own.as_mut_array() else {
+                    unreachable!()
+                };
+                let Some(pieces) = pieces.as_array() else {
+                    unreachable!()
+                };
                 note_pieces(own, pieces);
                 self.work = begin_update(size);
             }
@@ -151,13 +158,26 @@ impl Cpu {
         ensures stepped { Stepped p (M.mem w.old) self.old own.old result (M.mem w.new) self.new own.new }
         ensures unseen { M.seen w.new ≡ M.seen w.old }
     {
+        let Some(own) = own.as_mut_array() else {
+            unreachable!()
+        };
+        self.take_turn(w, p, own)
+    }
+
+    // The same, on own words whose type says how many they are.
+    fn take_turn<M: Memory>(&mut self, w: &mut M, p: u32, own: &mut OwnWords) -> Option<Answer>
+        requires once { 1 ≤ (M.mem w.old).left }
+        requires ready { Ready (M.mem w.old) p self.old own.old }
+        ensures stepped { Stepped p (M.mem w.old) self.old own.old result (M.mem w.new) self.new own.new }
+        ensures unseen { M.seen w.new ≡ M.seen w.old }
+    {
         let next = match self.work {
             Work::Idle => return None,
             Work::Lookup(l) => step_lookup(l, w, p).map_continue(Work::Lookup),
-            Work::Update(job, phase) => step_update(job, phase, w, p, own).map_continue(|(
-                job,
-                phase,
-            )| Work::Update(job, phase)),
+            Work::Update(job, phase) => {
+                let next = step_update(job, phase, w, p, own);
+                next.map_continue(|(job, phase)| Work::Update(job, phase))
+            }
         };
         match next {
             Continue(work) => {

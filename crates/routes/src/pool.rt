@@ -1,19 +1,19 @@
 // Blocks from the pool.
-ghost use Rattle.std.specs.Prelude.{◌≡◌, ◌<◌, length, slice_set};
+ghost use Rattle.std.specs.Prelude.{◌≡◌, ◌<◌, slice_set};
 ghost use Rattle.own.specs.Layout.{fresh_at};
 ghost use Rattle.routes.specs.declared.act.Act.TheVariants.{Obtain};
 ghost use Rattle.routes.specs.Machine.Acts.{MayDo, Did};
 ghost use Rattle.routes.specs.Machine.NewBlocks.{reply_of};
 
 use super::Memory;
-use own::keep_fresh;
+use own::{OwnWords, keep_fresh};
 
 // A block that was got in this turn and that nobody else knows. It cannot be let go: it moves to the fresh blocks among the own words.
 pub struct NewBlock(u32);
 
 impl NewBlock {
-    pub fn keep(self, own: &mut [u64], at: u32)
-        requires { (length own.old ≡ 4096) × (at < 72) }
+    pub fn keep(self, own: &mut OwnWords, at: u32)
+        requires { at < 72 }
         ensures { own.new ≡ slice_set own.old (fresh_at at) self.0 }
     {
         let NewBlock(block) = self;

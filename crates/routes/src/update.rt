@@ -5,6 +5,7 @@ ghost use Rattle.routes.specs.Machine.Updates.{UpdateReady, UpdateMoved, after_l
 use super::header::try_lock;
 use super::refusal::Refusal;
 use super::{Answer, Memory};
+use own::OwnWords;
 use std::ops::ControlFlow;
 use std::ops::ControlFlow::{Break, Continue};
 
@@ -54,7 +55,7 @@ pub fn step_update<M: Memory>(
     phase: Phase,
     w: &mut M,
     p: u32,
-    own: &mut [u64],
+    own: &mut OwnWords,
 ) -> UpdateNext
     requires ready { UpdateReady (M.mem w.old) p job phase own.old }
     ensures moved { UpdateMoved p job phase (M.mem w.old) own.old result (M.mem w.new) own.new }

@@ -1,5 +1,5 @@
 // Build: a copy of the nodes on the way to each piece, in fresh blocks, piece by piece on a working root.
-ghost use Rattle.std.specs.Prelude.{◌≡◌, ◌+◌, ◌<◌, ◌≤◌, length};
+ghost use Rattle.std.specs.Prelude.{◌≡◌, ◌+◌, ◌<◌, ◌≤◌};
 ghost use Rattle.routes.specs.declared.update.build.Build.TheVariants.{Read as AtRead, Edit as AtEdit, Write as AtWrite};
 ghost use Rattle.routes.specs.Machine.Builds.{BuildOk, BuildReady, BuildMoved, build_after, build_words, starting as starting_of, after_read, after_edit, after_write};
 
@@ -10,7 +10,7 @@ use super::check::prefix_at;
 use super::job::Job;
 use super::publish::Publish;
 use super::{Phase, UpdateNext};
-use own::{edit_piece, fresh_at, image_at, image_word, note_path, note_word};
+use own::{OwnWords, edit_piece, fresh_at, image_at, image_word, note_path, note_word};
 use std::ops::ControlFlow::Continue;
 use words::{block_of, nib};
 
@@ -95,7 +95,7 @@ fn read<M: Memory>(
     node: u32,
     w: &mut M,
     p: u32,
-    own: &mut [u64],
+    own: &mut OwnWords,
 ) -> UpdateNext
     requires ready { BuildReady (M.mem w.old) p job (AtRead k level word node) own.old }
     ensures moved { BuildMoved p job (AtRead k level word node) (M.mem w.old) own.old result (M.mem w.new) own.new }
@@ -132,8 +132,8 @@ fn after_edit(job: Job, k: u32, have: u8, levels: u32, root: u32) -> UpdateNext
     ))
 }
 
-fn edit(job: Job, k: u32, have: u8, own: &mut [u64]) -> UpdateNext
-    requires { (BuildOk job (AtEdit k have) own.old) × (length own.old ≡ 4096) }
+fn edit(job: Job, k: u32, have: u8, own: &mut OwnWords) -> UpdateNext
+    requires { BuildOk job (AtEdit k have) own.old }
     ensures next { result ≡ build_after job (AtEdit k have) own.old 0 }
     ensures words { own.new ≡ build_words job (AtEdit k have) own.old 0 }
 {
@@ -182,7 +182,7 @@ fn write<M: Memory>(
     word: u32,
     w: &mut M,
     p: u32,
-    own: &mut [u64],
+    own: &mut OwnWords,
 ) -> UpdateNext
     requires ready { BuildReady (M.mem w.old) p job (AtWrite k first level word) own.old }
     ensures moved { BuildMoved p job (AtWrite k first level word) (M.mem w.old) own.old result (M.mem w.new) own.new }
@@ -198,7 +198,13 @@ fn write<M: Memory>(
     after_write(job, k, first, level, word)
 }
 
-pub fn step_build<M: Memory>(job: Job, s: Build, w: &mut M, p: u32, own: &mut [u64]) -> UpdateNext
+pub fn step_build<M: Memory>(
+    job: Job,
+    s: Build,
+    w: &mut M,
+    p: u32,
+    own: &mut OwnWords,
+) -> UpdateNext
     requires ready { BuildReady (M.mem w.old) p job s own.old }
     ensures moved { BuildMoved p job s (M.mem w.old) own.old result (M.mem w.new) own.new }
     ensures unseen { M.seen w.new ≡ M.seen w.old }

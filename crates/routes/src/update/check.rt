@@ -1,5 +1,5 @@
 // Check: is each piece clean, and is what it takes out there?
-ghost use Rattle.std.specs.Prelude.{◌≡◌, ◌<◌, ◌≤◌, length};
+ghost use Rattle.std.specs.Prelude.{◌≡◌, ◌<◌, ◌≤◌};
 ghost use Rattle.routes.specs.declared.update.check.Check.TheVariants.{Root as AtRoot, Slot as AtSlot, Route as AtRoute};
 ghost use Rattle.routes.specs.Machine.Checks.{AtPiece, CleanIn, CheckReady, CheckMoved, piece_in, passed as passed_of, looked_at, entered, found_route, decided as decided_of};
 
@@ -12,7 +12,7 @@ use super::super::{Answer, Memory};
 use super::job::Job;
 use super::obtain::Obtain;
 use super::{Phase, UpdateNext};
-use own::{Earlier, last_before, piece_at};
+use own::{Earlier, OwnWords, last_before, piece_at};
 use std::ops::ControlFlow::{Break, Continue};
 use words::{block_of, nib, route_place};
 
@@ -43,8 +43,8 @@ fn passed(job: Job, k: u32, len: u8) -> UpdateNext
 }
 
 // What piece k comes to before anything is loaded.
-fn look_at(job: Job, k: u32, own: &[u64]) -> Result<UpdateNext, Refusal>
-    requires { (AtPiece job k) × (length own.now ≡ 4096) }
+fn look_at(job: Job, k: u32, own: &OwnWords) -> Result<UpdateNext, Refusal>
+    requires { AtPiece job k }
     ensures { result ≡ looked_at job k own.now }
 {
     let piece = piece_at(own, k);
@@ -92,8 +92,8 @@ fn decided(job: Job, r: Result<UpdateNext, Refusal>) -> UpdateNext
 }
 
 // The prefix of piece k, which is clean.
-pub fn prefix_at(own: &[u64], k: u32) -> Prefix
-    requires { (length own.now ≡ 4096) × ((k < 8) × (CleanIn own.now k)) }
+pub fn prefix_at(own: &OwnWords, k: u32) -> Prefix
+    requires { (k < 8) × (CleanIn own.now k) }
     ensures { (result.len ≡ (piece_in own.now k).len) × ((result.bits ≡ (piece_in own.now k).bits) × (result.len ≤ 32)) }
 {
     let piece = piece_at(own, k);
@@ -103,7 +103,7 @@ pub fn prefix_at(own: &[u64], k: u32) -> Prefix
     }
 }
 
-fn check_root<M: Memory>(job: Job, k: u32, w: &mut M, p: u32, own: &[u64]) -> UpdateNext
+fn check_root<M: Memory>(job: Job, k: u32, w: &mut M, p: u32, own: &OwnWords) -> UpdateNext
     requires ready { CheckReady (M.mem w.old) p job (AtRoot k) own.now }
     ensures moved { CheckMoved p job (AtRoot k) (M.mem w.old) own.now result (M.mem w.new) }
     ensures unseen { M.seen w.new ≡ M.seen w.old }
@@ -120,7 +120,7 @@ fn check_slot<M: Memory>(
     node: u32,
     w: &mut M,
     p: u32,
-    own: &[u64],
+    own: &OwnWords,
 ) -> UpdateNext
     requires ready { CheckReady (M.mem w.old) p job (AtSlot k level node) own.now }
     ensures moved { CheckMoved p job (AtSlot k level node) (M.mem w.old) own.now result (M.mem w.new) }
@@ -131,7 +131,14 @@ fn check_slot<M: Memory>(
     decided(job, enter(job, k, prefix.len, level + 1, child))
 }
 
-fn check_route<M: Memory>(job: Job, k: u32, node: u32, w: &mut M, p: u32, own: &[u64]) -> UpdateNext
+fn check_route<M: Memory>(
+    job: Job,
+    k: u32,
+    node: u32,
+    w: &mut M,
+    p: u32,
+    own: &OwnWords,
+) -> UpdateNext
     requires ready { CheckReady (M.mem w.old) p job (AtRoute k node) own.now }
     ensures moved { CheckMoved p job (AtRoute k node) (M.mem w.old) own.now result (M.mem w.new) }
     ensures unseen { M.seen w.new ≡ M.seen w.old }
@@ -142,7 +149,7 @@ fn check_route<M: Memory>(job: Job, k: u32, node: u32, w: &mut M, p: u32, own: &
     decided(job, find_route(job, k, prefix.len, word))
 }
 
-pub fn step_check<M: Memory>(job: Job, s: Check, w: &mut M, p: u32, own: &[u64]) -> UpdateNext
+pub fn step_check<M: Memory>(job: Job, s: Check, w: &mut M, p: u32, own: &OwnWords) -> UpdateNext
     requires ready { CheckReady (M.mem w.old) p job s own.now }
     ensures moved { CheckMoved p job s (M.mem w.old) own.now result (M.mem w.new) }
     ensures unseen { M.seen w.new ≡ M.seen w.old }

@@ -11,7 +11,7 @@ use super::build::Build;
 use super::job::Job;
 use super::recycle::Recycle;
 use super::{Phase, UpdateNext};
-use own::fresh_at;
+use own::{OwnWords, fresh_at};
 use std::ops::ControlFlow::{Break, Continue};
 
 #[derive(Clone, Copy)]
@@ -44,7 +44,7 @@ pub fn undoing(job: Job) -> UpdateNext
     }
 }
 
-fn get<M: Memory>(job: Job, w: &mut M, p: u32, own: &mut [u64]) -> UpdateNext
+fn get<M: Memory>(job: Job, w: &mut M, p: u32, own: &mut OwnWords) -> UpdateNext
     requires ready { ObtainReady (M.mem w.old) p job AtGet own.old }
     ensures moved { ObtainMoved p job AtGet (M.mem w.old) own.old result (M.mem w.new) own.new }
     ensures unseen { M.seen w.new ≡ M.seen w.old }
@@ -61,7 +61,7 @@ fn get<M: Memory>(job: Job, w: &mut M, p: u32, own: &mut [u64]) -> UpdateNext
     }
 }
 
-fn undo<M: Memory>(job: Job, w: &mut M, p: u32, own: &mut [u64]) -> UpdateNext
+fn undo<M: Memory>(job: Job, w: &mut M, p: u32, own: &mut OwnWords) -> UpdateNext
     requires ready { ObtainReady (M.mem w.old) p job AtUndo own.old }
     ensures moved { ObtainMoved p job AtUndo (M.mem w.old) own.old result (M.mem w.new) own.new }
     ensures unseen { M.seen w.new ≡ M.seen w.old }
@@ -71,7 +71,13 @@ fn undo<M: Memory>(job: Job, w: &mut M, p: u32, own: &mut [u64]) -> UpdateNext
     undoing(Job { got, ..job })
 }
 
-pub fn step_obtain<M: Memory>(job: Job, s: Obtain, w: &mut M, p: u32, own: &mut [u64]) -> UpdateNext
+pub fn step_obtain<M: Memory>(
+    job: Job,
+    s: Obtain,
+    w: &mut M,
+    p: u32,
+    own: &mut OwnWords,
+) -> UpdateNext
     requires ready { ObtainReady (M.mem w.old) p job s own.old }
     ensures moved { ObtainMoved p job s (M.mem w.old) own.old result (M.mem w.new) own.new }
     ensures unseen { M.seen w.new ≡ M.seen w.old }

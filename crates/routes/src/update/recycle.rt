@@ -1,5 +1,5 @@
 // Recycle: where the pool has no block left, the oldest retired node becomes a fresh block, once nobody can be reading it.
-ghost use Rattle.std.specs.Prelude.{◌≡◌, ◌<◌, length, slice_set};
+ghost use Rattle.std.specs.Prelude.{◌≡◌, ◌<◌, slice_set};
 ghost use Rattle.own.specs.Layout.{fresh_at};
 ghost use Rattle.routes.specs.declared.update.recycle.Recycle.TheVariants.{SetHead as AtSetHead};
 ghost use Rattle.routes.specs.Machine.Recycles.{RecycleReady, RecycleMoved, oldest as oldest_of, unlinked as unlinked_of};
@@ -12,7 +12,7 @@ use super::job::Job;
 use super::obtain::{gathering, undoing};
 use super::scan::{GracePeriod, Scan};
 use super::{Phase, UpdateNext};
-use own::keep_fresh;
+use own::{OwnWords, keep_fresh};
 use std::ops::ControlFlow::Continue;
 use words::block_of;
 
@@ -47,8 +47,8 @@ fn oldest(job: Job, node: u32) -> UpdateNext
 }
 
 // A node that nobody can be reading, by what the scan has shown, is a fresh block.
-fn reuse(own: &mut [u64], at: u32, node: u32, _grace: GracePeriod)
-    requires { (length own.old ≡ 4096) × (at < 72) }
+fn reuse(own: &mut OwnWords, at: u32, node: u32, _grace: GracePeriod)
+    requires { at < 72 }
     ensures { own.new ≡ slice_set own.old (fresh_at at) node }
 {
     keep_fresh(own, at, node);
@@ -72,7 +72,7 @@ fn set_head<M: Memory>(
     grace: GracePeriod,
     w: &mut M,
     p: u32,
-    own: &mut [u64],
+    own: &mut OwnWords,
 ) -> UpdateNext
     requires ready { RecycleReady (M.mem w.old) p job (AtSetHead node next grace) own.old }
     ensures moved { RecycleMoved p job (AtSetHead node next grace) (M.mem w.old) own.old result (M.mem w.new) own.new }
@@ -94,7 +94,7 @@ pub fn step_recycle<M: Memory>(
     s: Recycle,
     w: &mut M,
     p: u32,
-    own: &mut [u64],
+    own: &mut OwnWords,
 ) -> UpdateNext
     requires ready { RecycleReady (M.mem w.old) p job s own.old }
     ensures moved { RecycleMoved p job s (M.mem w.old) own.old result (M.mem w.new) own.new }

@@ -1,5 +1,5 @@
 // Retire: the epoch is raised, and the nodes that were replaced go behind the tail of limbo, each with the epoch in which it was retired.
-ghost use Rattle.std.specs.Prelude.{◌≡◌, ◌<◌, length};
+ghost use Rattle.std.specs.Prelude.{◌≡◌, ◌<◌};
 ghost use Rattle.routes.specs.declared.update.retire.Retire.TheVariants.{SetNext as AtSetNext};
 ghost use Rattle.routes.specs.Machine.Retires.{RetireReady, RetireMoved, follower_in, after_epoch, after_next, after_tail};
 
@@ -10,7 +10,7 @@ use super::super::node::{NEXT_RETIRED, RETIRED_AT};
 use super::Phase;
 use super::job::Job;
 use super::scan::Scan;
-use own::retired_at;
+use own::{OwnWords, retired_at};
 use words::block_of;
 
 #[derive(Clone, Copy)]
@@ -63,8 +63,8 @@ fn after_tail(tail: u32) -> Phase
 }
 
 // The replaced node after node i, or 0.
-pub fn follower(job: Job, i: u32, own: &[u64]) -> u32
-    requires { (i < 72) × (length own.now ≡ 4096) }
+pub fn follower(job: Job, i: u32, own: &OwnWords) -> u32
+    requires { i < 72 }
     ensures { result ≡ follower_in job i own.now }
 {
     if i + 1 < job.retired {
@@ -74,7 +74,7 @@ pub fn follower(job: Job, i: u32, own: &[u64]) -> u32
     }
 }
 
-fn set_next<M: Memory>(job: Job, i: u32, epoch: u64, w: &mut M, p: u32, own: &[u64]) -> Phase
+fn set_next<M: Memory>(job: Job, i: u32, epoch: u64, w: &mut M, p: u32, own: &OwnWords) -> Phase
     requires ready { RetireReady (M.mem w.old) p job (AtSetNext i epoch) own.now }
     ensures moved { RetireMoved p job (AtSetNext i epoch) (M.mem w.old) own.now result (M.mem w.new) }
     ensures unseen { M.seen w.new ≡ M.seen w.old }
@@ -84,7 +84,7 @@ fn set_next<M: Memory>(job: Job, i: u32, epoch: u64, w: &mut M, p: u32, own: &[u
     after_next(job, i, epoch)
 }
 
-pub fn step_retire<M: Memory>(job: Job, s: Retire, w: &mut M, p: u32, own: &[u64]) -> Phase
+pub fn step_retire<M: Memory>(job: Job, s: Retire, w: &mut M, p: u32, own: &OwnWords) -> Phase
     requires ready { RetireReady (M.mem w.old) p job s own.now }
     ensures moved { RetireMoved p job s (M.mem w.old) own.now result (M.mem w.new) }
     ensures unseen { M.seen w.new ≡ M.seen w.old }

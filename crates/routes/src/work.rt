@@ -1,12 +1,12 @@
 // What a processor has under way, and how it begins.
-ghost use Rattle.std.specs.Prelude.{◌≡◌, length};
+ghost use Rattle.std.specs.Prelude.{◌≡◌};
 ghost use Rattle.routes.specs.Machine.Begins.{stored as stored_of, noted as noted_of, begin_update, PieceFits, PiecesFit};
 
 use super::Piece;
 use super::lookup::Lookup;
 use super::update::Phase;
 use super::update::job::Job;
-use own::{PieceWords, write_piece};
+use own::{OwnWords, PieceWords, write_piece};
 
 #[derive(Clone, Copy)]
 pub enum Work {
@@ -29,8 +29,7 @@ fn stored(piece: Piece) -> PieceWords
 }
 
 // All eight pieces of the lent row, among the own words.
-pub fn note_pieces(own: &mut [u64], pieces: &[Piece])
-    requires { (length own.old ≡ 4096) × (length pieces.now ≡ 8) }
+pub fn note_pieces(own: &mut OwnWords, pieces: &[Piece; 8])
     ensures words { own.new ≡ noted_of pieces.now own.old 8 }
     ensures fits { PiecesFit pieces.now 8 }
 {

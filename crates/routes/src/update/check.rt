@@ -1,17 +1,19 @@
 // Check: is each piece clean, and is what it takes out there?
-ghost use Rattle.std.specs.Prelude.{◌≡◌, ◌<◌, ◌≤◌, length};
+ghost use Rattle.std.specs.Prelude.{◌≡◌, ◌<◌, ◌≤◌};
 ghost use Rattle.routes.specs.declared.update.check.Check.TheVariants.{Root as AtRoot, Slot as AtSlot, Route as AtRoute};
 ghost use Rattle.routes.specs.Machine.Checks.{AtPiece, CleanIn, CheckReady, CheckMoved, piece_in, passed as passed_of, looked_at, entered, found_route, decided as decided_of};
 
-use super::super::header::{load_root, unlock};
-use super::super::node::{load_route, load_slot};
+use super::super::access::load;
+use super::super::header::{HEADER, ROOT, unlock};
+use super::super::node::ROUTES;
 use super::super::prefix::Prefix;
 use super::super::refusal::{Refusal, make_prefix};
 use super::super::{Answer, Memory};
 use super::job::Job;
 use super::obtain::Obtain;
 use super::{Phase, UpdateNext};
-use own::{Earlier, last_before, piece_at};
+use own::{Earlier, OwnWords, last_before, piece_at};
+use std::ops::ControlFlow::{Break, Continue};
 use words::{block_of, nib, route_place};
 
 // Piece k is in hand: at first it is looked at by itself, then looked up from the root down to its route.
@@ -34,15 +36,15 @@ fn passed(job: Job, k: u32, len: u8) -> UpdateNext
         ..job
     };
     if k + 1 < job.size {
-        UpdateNext::On(job, Phase::Check(Check::Piece { k: k + 1 }))
+        Continue((job, Phase::Check(Check::Piece { k: k + 1 })))
     } else {
-        UpdateNext::On(job, Phase::Obtain(Obtain::Get))
+        Continue((job, Phase::Obtain(Obtain::Get)))
     }
 }
 
 // What piece k comes to before anything is loaded.
-fn look_at(job: Job, k: u32, own: &[u64]) -> Result<UpdateNext, Refusal>
-    requires { (AtPiece job k) × (length own.now ≡ 4096) }
+fn look_at(job: Job, k: u32, own: &OwnWords) -> Result<UpdateNext, Refusal>
+    requires { AtPiece job k }
     ensures { result ≡ looked_at job k own.now }
 {
     let piece = piece_at(own, k);
@@ -53,7 +55,7 @@ fn look_at(job: Job, k: u32, own: &[u64]) -> Result<UpdateNext, Refusal>
     match last_before(own, k) {
         Earlier::Put => Ok(passed(job, k, prefix.len)),
         Earlier::Taken => Err(Refusal::AbsentRoute),
-        Earlier::Never => Ok(UpdateNext::On(job, Phase::Check(Check::Root { k }))),
+        Earlier::Never => Ok(Continue((job, Phase::Check(Check::Root { k })))),
     }
 }
 
@@ -65,9 +67,9 @@ fn enter(job: Job, k: u32, len: u8, level: u8, node: u32) -> Result<UpdateNext, 
         return Err(Refusal::AbsentRoute);
     }
     if level == len / 4 {
-        Ok(UpdateNext::On(job, Phase::Check(Check::Route { k, node })))
+        Ok(Continue((job, Phase::Check(Check::Route { k, node }))))
     } else {
-        Ok(UpdateNext::On(job, Phase::Check(Check::Slot { k, level, node })))
+        Ok(Continue((job, Phase::Check(Check::Slot { k, level, node }))))
     }
 }
 
@@ -86,15 +88,12 @@ fn find_route(job: Job, k: u32, len: u8, word: u64) -> Result<UpdateNext, Refusa
 fn decided(job: Job, r: Result<UpdateNext, Refusal>) -> UpdateNext
     ensures { result ≡ decided_of job r }
 {
-    match r {
-        Ok(next) => next,
-        Err(why) => UpdateNext::On(job, Phase::Check(Check::Reject { why })),
-    }
+    r.unwrap_or_else(|why| Continue((job, Phase::Check(Check::Reject { why }))))
 }
 
 // The prefix of piece k, which is clean.
-pub fn prefix_at(own: &[u64], k: u32) -> Prefix
-    requires { (length own.now ≡ 4096) × ((k < 8) × (CleanIn own.now k)) }
+pub fn prefix_at(own: &OwnWords, k: u32) -> Prefix
+    requires { (k < 8) × (CleanIn own.now k) }
     ensures { (result.len ≡ (piece_in own.now k).len) × ((result.bits ≡ (piece_in own.now k).bits) × (result.len ≤ 32)) }
 {
     let piece = piece_at(own, k);
@@ -104,13 +103,13 @@ pub fn prefix_at(own: &[u64], k: u32) -> Prefix
     }
 }
 
-fn check_root<M: Memory>(job: Job, k: u32, w: &mut M, p: u32, own: &[u64]) -> UpdateNext
+fn check_root<M: Memory>(job: Job, k: u32, w: &mut M, p: u32, own: &OwnWords) -> UpdateNext
     requires ready { CheckReady (M.mem w.old) p job (AtRoot k) own.now }
     ensures moved { CheckMoved p job (AtRoot k) (M.mem w.old) own.now result (M.mem w.new) }
     ensures unseen { M.seen w.new ≡ M.seen w.old }
 {
     let prefix = prefix_at(own, k);
-    let root = block_of(load_root(w, p));
+    let root = block_of(load(w, p, HEADER, ROOT));
     decided(job, enter(job, k, prefix.len, 0, root))
 }
 
@@ -121,28 +120,36 @@ fn check_slot<M: Memory>(
     node: u32,
     w: &mut M,
     p: u32,
-    own: &[u64],
+    own: &OwnWords,
 ) -> UpdateNext
     requires ready { CheckReady (M.mem w.old) p job (AtSlot k level node) own.now }
     ensures moved { CheckMoved p job (AtSlot k level node) (M.mem w.old) own.now result (M.mem w.new) }
     ensures unseen { M.seen w.new ≡ M.seen w.old }
 {
     let prefix = prefix_at(own, k);
-    let child = block_of(load_slot(w, p, node, nib(level, prefix.bits)));
+    let child = block_of(load(w, p, node, nib(level, prefix.bits)));
     decided(job, enter(job, k, prefix.len, level + 1, child))
 }
 
-fn check_route<M: Memory>(job: Job, k: u32, node: u32, w: &mut M, p: u32, own: &[u64]) -> UpdateNext
+fn check_route<M: Memory>(
+    job: Job,
+    k: u32,
+    node: u32,
+    w: &mut M,
+    p: u32,
+    own: &OwnWords,
+) -> UpdateNext
     requires ready { CheckReady (M.mem w.old) p job (AtRoute k node) own.now }
     ensures moved { CheckMoved p job (AtRoute k node) (M.mem w.old) own.now result (M.mem w.new) }
     ensures unseen { M.seen w.new ≡ M.seen w.old }
 {
     let prefix = prefix_at(own, k);
-    let word = load_route(w, p, node, route_place(prefix.len, prefix.bits));
+    let place = ROUTES + route_place(prefix.len, prefix.bits);
+    let word = load(w, p, node, place);
     decided(job, find_route(job, k, prefix.len, word))
 }
 
-pub fn step_check<M: Memory>(job: Job, s: Check, w: &mut M, p: u32, own: &[u64]) -> UpdateNext
+pub fn step_check<M: Memory>(job: Job, s: Check, w: &mut M, p: u32, own: &OwnWords) -> UpdateNext
     requires ready { CheckReady (M.mem w.old) p job s own.now }
     ensures moved { CheckMoved p job s (M.mem w.old) own.now result (M.mem w.new) }
     ensures unseen { M.seen w.new ≡ M.seen w.old }
@@ -154,7 +161,7 @@ pub fn step_check<M: Memory>(job: Job, s: Check, w: &mut M, p: u32, own: &[u64])
         Check::Route { k, node } => check_route(job, k, node, w, p, own),
         Check::Reject { why } => {
             let _was = unlock(w, p);
-            UpdateNext::Told(Answer::No(why.number()))
+            Break(Answer::No(u8::from(why)))
         }
     }
 }

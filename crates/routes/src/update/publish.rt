@@ -4,8 +4,8 @@ ghost use Rattle.routes.specs.Machine.Acts.{MayDo};
 ghost use Rattle.routes.specs.Machine.Publishes.{PublishMoved, publish_act};
 
 use super::super::Memory;
-use super::super::header::store_root;
-use super::super::pool::fence;
+use super::super::access::{fence, store};
+use super::super::header::{HEADER, ROOT};
 use super::Phase;
 use super::job::Job;
 use super::retire::Retire;
@@ -31,7 +31,7 @@ pub fn step_publish<M: Memory>(job: Job, s: Publish, w: &mut M, p: u32) -> Phase
             Phase::Publish(Publish::SetRoot)
         }
         Publish::SetRoot => {
-            store_root(w, p, job.root);
+            store(w, p, HEADER, ROOT, u64::from(job.root));
             Phase::Publish(Publish::FenceRoot)
         }
         Publish::FenceRoot => {

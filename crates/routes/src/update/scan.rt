@@ -4,7 +4,8 @@ ghost use Rattle.routes.specs.Machine.Acts.{MayDo};
 ghost use Rattle.routes.specs.Machine.Scans.{ScanOk, ScanMoved, scan_act, announced_before, passed_for, passed_with};
 
 use super::super::Memory;
-use super::super::header::load_active;
+use super::super::access::load;
+use super::super::header::{ACTIVE, HEADER};
 use super::Phase;
 use super::reclaim::{MOST_RELEASED, Reclaim};
 use super::recycle::Recycle;
@@ -96,7 +97,7 @@ pub fn step_scan<M: Memory>(s: Scan, w: &mut M, p: u32) -> Phase
     let cpus = w.cpus();
     match s {
         Scan::ForNode { q, node, stamp } => {
-            let announced = load_active(w, p, q);
+            let announced = load(w, p, HEADER, ACTIVE + q);
             if announced_before(announced, stamp + 1) {
                 Phase::Scan(Scan::ForNode { q, node, stamp })
             } else {
@@ -104,7 +105,7 @@ pub fn step_scan<M: Memory>(s: Scan, w: &mut M, p: u32) -> Phase
             }
         }
         Scan::ForLimit { q, limit } => {
-            let announced = load_active(w, p, q);
+            let announced = load(w, p, HEADER, ACTIVE + q);
             let limit = if announced_before(announced, limit) {
                 announced - 1
             } else {

@@ -5,6 +5,7 @@ mod access;
 mod arrive;
 mod guard;
 mod layout;
+mod look;
 mod pool;
 mod row;
 mod shared;

@@ -39,7 +39,7 @@ impl Layout {
         if free.len() != blocks as usize {
             return Err(MemoryError::Stack);
         }
-        if late.len() == 0 || late.len() % MOST_CPUS != 0 {
+        if late.is_empty() || late.len() % MOST_CPUS != 0 {
             return Err(MemoryError::Rows);
         }
         Ok(Layout {
@@ -56,9 +56,7 @@ fn clear_first(words: &mut [u64])
     ensures noughts { (w : ℕ) → w < 48 → slice_index words.new w ≡ 0 }
     ensures kept { (i : ℕ) → 48 ≤ i → slice_index words.new i ≡ slice_index words.old i }
 {
-    for w in 0..BLOCK_WORDS {
-        words[w] = 0;
-    }
+    words[..BLOCK_WORDS].fill(0);
 }
 
 // Block 0 is held, and no other.
@@ -66,9 +64,8 @@ fn hold_first(held: &mut [bool])
     requires { 0 < length held.old }
     ensures { (b : ℕ) → held_of held.new b ≡ (b == 0) }
 {
-    for b in 0..held.len() {
-        held[b] = b == 0;
-    }
+    held.fill(false);
+    held[0] = true;
 }
 
 // All others are on the stack, block 1 on top.
@@ -76,8 +73,9 @@ fn stack_others(free: &mut [u32], blocks: u32)
     requires { (length free.old ≡ blocks) × (0 < blocks) }
     ensures { (i : ℕ) → i < blocks - 1 → slice_index free.new i ≡ blocks - 1 - i }
 {
-    for i in 0..blocks - 1 {
-        free[i as usize] = blocks - 1 - i;
+    let others = blocks - 1;
+    for (i, place) in free[..others as usize].iter_mut().enumerate() {
+        *place = others - i as u32;
     }
 }
 
@@ -85,13 +83,7 @@ fn stack_others(free: &mut [u32], blocks: u32)
 fn clear_rows(late: &mut [LateStore])
     ensures { (i : ℕ) → slice_index_or late.new i no_store ≡ no_store }
 {
-    for i in 0..late.len() {
-        late[i] = LateStore {
-            block: 0,
-            word: 0,
-            x: 0,
-        };
-    }
+    late.fill(LateStore::default());
 }
 
 impl<'a> SharedMemory<'a> {

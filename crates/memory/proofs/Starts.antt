@@ -1,6 +1,6 @@
 -- A memory as it starts.
-use Rattle.std.proofs.Common.{◌≡◌, ℕ, ◌+◌, ◌-◌, ◌*◌, ◌<◌, ◌≤◌, Bool, eqb, List, [], get_or, replicate, refl, ap, ◌∙◌, inl, inr, arith}
-use Rattle.std.proofs.lemmas.List.{get_or-replicate, get_or_past}
+use Rattle.std.proofs.Common.{◌≡◌, ℕ, ◌+◌, ◌-◌, ◌*◌, ◌<◌, ◌≤◌, Bool, eqb, List, [], length, get_or, drop, ◌++◌, replicate, refl, ap, ◌∙◌, inl, inr, arith}
+use Rattle.std.proofs.lemmas.List.{get_or-replicate, get_or_past, get_or_append_left, get_or-append_right, get_or-drop, length-replicate}
 use Rattle.std.proofs.lemmas.Bool.{cases_lt, ne_eqb}
 use Rattle.std.proofs.lemmas.Bool.Decides.{nat_tests}
 use Rattle.routes.specs.Counts.Counts.{bit}
@@ -16,6 +16,14 @@ start_val ws zero w = elim (cases_lt w 48) [
   | inl h ↦ (let place : 48 * 0 + w ≡ w = omega arith in let read = zero w h in rw (place, read) (grind (arith, nat_tests)))
   | inr h ↦ grind (arith, nat_tests)
 ]
+
+-- The first 48 words are noughts, and the others as they were.
+pub first_cleared : (vs ws : List ℕ) → vs ≡ replicate 48 0 → ((w : ℕ) → w < 48 → get_or (vs ++ drop 48 ws) w 0 ≡ 0) × ((i : ℕ) → 48 ≤ i → get_or (vs ++ drop 48 ws) i 0 ≡ get_or ws i 0)
+first_cleared vs ws e =
+    let long : length vs ≡ 48 = ap length e ∙ length-replicate {A = ℕ} 48 0 in (
+      (λ w h. get_or_append_left vs (drop 48 ws) 0 w (rw long h) ∙ (ap (λ l. get_or l w 0) e ∙ get_or-replicate 48 w 0 0 h)),
+      (λ i h. let place : 48 + (i - 48) ≡ i = omega (arith, h) in get_or-append_right vs (drop 48 ws) 48 i 0 long h ∙ (get_or-drop 48 ws (i - 48) 0 ∙ ap (λ k. get_or ws k 0) place)),
+    )
 
 -- Other blocks are as they were.
 pub start_kept : (ws vs : List ℕ) → ((i : ℕ) → 48 ≤ i → get_or ws i 0 ≡ get_or vs i 0) → (b w : ℕ) → 0 < b → val_of ws b w ≡ val_of vs b w

@@ -4,7 +4,6 @@ ghost use Rattle.routes.specs.Memory.{MayTouch, Arrives, sees, fenced, swapped, 
 ghost use Rattle.memory.specs.Memories.{mem_of};
 
 use crate::arrive::word_at;
-use crate::row::newest;
 use crate::shared::SharedMemory;
 use routes::Memory;
 
@@ -14,17 +13,8 @@ impl SharedMemory<'_> {
         requires { (p < 16) × ((block < self.now.layout.blocks) × (word < 48)) }
         ensures { result ≡ sees p block word (mem_of self.now) }
     {
-        let i = p as usize;
-        let there = self.words[word_at(block, word)];
-        newest(
-            self.late,
-            self.layout.room,
-            i,
-            self.rows[i],
-            block,
-            word,
-            there,
-        )
+        self.newest(p as usize, block, word)
+            .unwrap_or(self.words[word_at(block, word)])
     }
 
     // A fence, and then, if a word is old, it is new; what it was.
@@ -76,13 +66,11 @@ impl Memory for SharedMemory<'_> {
         self.exchange(p, block, word, old, new)
     }
 
-    fn obtain(&mut self, p: u32) -> Option<u32> {
-        let _p = p;
+    fn obtain(&mut self, _p: u32) -> Option<u32> {
         self.take_block()
     }
 
-    fn release(&mut self, p: u32, block: u32) {
-        let _p = p;
+    fn release(&mut self, _p: u32, block: u32) {
         self.left -= 1;
         self.put_back(block);
     }

@@ -1,5 +1,5 @@
 // Stores arrive.
-ghost use Rattle.std.specs.Prelude.{◌≡◌, ℕ, ◌<◌, false, T, length};
+ghost use Rattle.std.specs.Prelude.{◌≡◌, ℕ, ◌<◌, length};
 ghost use Rattle.routes.specs.Memory.{Arrives, oldest, fenced, stored};
 ghost use Rattle.memory.specs.Words.{word_at};
 ghost use Rattle.std.specs.Option.{option_map};
@@ -25,18 +25,13 @@ impl SharedMemory<'_> {
         ensures same { self.new.layout ≡ self.old.layout }
     {
         let i = p as usize;
-        if i >= MOST_CPUS {
-            return None;
-        }
-        let row = self.rows[i];
-        if row.many == 0 {
-            return None;
-        }
+        let row = *self.rows.get(i)?;
+        let many = row.many.checked_sub(1)?;
         let store = self.late[MOST_CPUS * row.first + i];
         self.words[word_at(store.block, store.word)] = store.x;
         self.rows[i] = Row {
             first: wrap(self.layout.room, row.first + 1),
-            many: row.many - 1,
+            many,
         };
         Some(store)
     }
@@ -50,20 +45,11 @@ impl SharedMemory<'_> {
         self.arrive_oldest(p).is_some()
     }
 
-    // The same, as a step of a fence: false when all have arrived.
-    fn arrive_next(&mut self, p: u32) -> bool
-        ensures still { fenced p (mem_of self.new) ≡ fenced p (mem_of self.old) }
-        ensures fewer { T result → length ((mem_of self.new).late p) < length ((mem_of self.old).late p) }
-        ensures over { result ≡ false → mem_of self.new ≡ fenced p (mem_of self.old) }
-    {
-        self.arrive(p)
-    }
-
     // All stores of a processor arrive.
     pub(crate) fn arrive_all(&mut self, p: u32)
         ensures { mem_of self.new ≡ fenced p (mem_of self.old) }
     {
-        while self.arrive_next(p) {}
+        while self.arrive(p) {}
     }
 
     // A row that is full lets its oldest store arrive.
@@ -86,12 +72,12 @@ impl SharedMemory<'_> {
         ensures { mem_of self.new ≡ stored p block word x (mem_of self.old) }
     {
         let i = p as usize;
-        let row = self.rows[i];
-        let at = place_of(self.layout.room, i, row.first, row.many);
+        let Row { first, many } = self.rows[i];
+        let at = place_of(self.layout.room, i, first, many);
         self.late[at] = LateStore { block, word, x };
         self.rows[i] = Row {
-            first: row.first,
-            many: row.many + 1,
+            first,
+            many: many + 1,
         };
     }
 

@@ -4,7 +4,6 @@ ghost use Rattle.routes.specs.Memory.{MayTouch, MayRelease, allowed};
 ghost use Rattle.memory.specs.Pools.{held_count};
 ghost use Rattle.memory.specs.Memories.{MayAsk, mem_of};
 
-use crate::row::none_in_rows;
 use crate::shared::SharedMemory;
 use crate::size::BLOCK_WORDS;
 
@@ -48,8 +47,6 @@ impl SharedMemory<'_> {
         ensures sound { T result → MayRelease (mem_of self.now) p block }
         ensures exact { MayRelease (mem_of self.now) p block → T result }
     {
-        0 < block
-            && self.may_touch(p, block, 0)
-            && none_in_rows(self.late, self.layout.room, &self.rows, block)
+        0 < block && self.may_touch(p, block, 0) && self.none_late_to(block)
     }
 }

@@ -5,6 +5,8 @@ mod access;
 mod arrive;
 mod guard;
 mod layout;
+mod lent;
+mod look;
 mod pool;
 mod row;
 mod shared;
@@ -12,6 +14,7 @@ mod size;
 mod start;
 
 pub use layout::{Layout, MemoryError};
+pub use lent::LentMemory;
 pub use row::LateStore;
 pub use shared::SharedMemory;
 pub use size::{BLOCK_WORDS, LEAST_BLOCKS, MOST_BLOCKS, MOST_CPUS};

@@ -12,10 +12,8 @@ impl SharedMemory<'_> {
         ensures top { MatchOption result (self.now.free_count ≡ 0) (λ b. (0 < self.now.free_count) × (b ≡ slice_index self.now.free.now (self.now.free_count - 1))) }
         ensures free { MatchOption result ((b : ℕ) → b < self.now.layout.blocks → T (held_of self.now.held.now b)) (λ b. (b < self.now.layout.blocks) × (held_of self.now.held.now b ≡ false)) }
     {
-        if self.free_count == 0 {
-            return None;
-        }
-        Some(self.free[self.free_count - 1])
+        let top = self.free_count.checked_sub(1)?;
+        Some(self.free[top])
     }
 
     // A block is got.
@@ -24,14 +22,10 @@ impl SharedMemory<'_> {
         ensures { Obtains (mem_of self.old) result (mem_of self.new) }
     {
         self.left -= 1;
-        match self.top_free() {
-            Some(block) => {
-                self.held[block as usize] = true;
-                self.free_count -= 1;
-                Some(block)
-            }
-            None => None,
-        }
+        let block = self.top_free()?;
+        self.held[block as usize] = true;
+        self.free_count -= 1;
+        Some(block)
     }
 
     // A block is given back.

@@ -16,7 +16,7 @@ pub struct SharedMemory<'a> {
     pub(crate) late: &'a mut [LateStore],
     pub(crate) rows: [Row; MOST_CPUS],
     pub(crate) layout: Layout,
-    // how many blocks are free
+    // how many blocks are free; a count beside the stack, which the caller lends
     pub(crate) free_count: usize,
     // how often it may still be asked in this turn
     pub(crate) left: u32,

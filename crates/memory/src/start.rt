@@ -8,44 +8,38 @@ ghost use Rattle.memory.specs.Layouts.{misfit, LentFor, LaidOut};
 ghost use Rattle.memory.specs.Memories.{mem_of};
 
 use crate::layout::{Layout, MemoryError};
+use crate::lent::LentMemory;
 use crate::row::{LateStore, Row};
 use crate::shared::SharedMemory;
 use crate::size::{BLOCK_WORDS, LEAST_BLOCKS, MOST_BLOCKS, MOST_CPUS};
 
 impl Layout {
     // The layout of so many processors and blocks in slices that are as long as they have to be.
-    pub fn new(
-        cpus: u32,
-        blocks: u32,
-        words: &[u64],
-        held: &[bool],
-        free: &[u32],
-        late: &[LateStore],
-    ) -> Result<Layout, MemoryError>
-        ensures { MatchResult result (LaidOut cpus blocks (length words.now) (length held.now) (length free.now) (length late.now)) (λ e. misfit cpus blocks (length words.now) (length held.now) (length free.now) (length late.now) ≡ Some e) }
+    pub fn new(cpus: u32, blocks: u32, lent: &LentMemory<'_>) -> Result<Layout, MemoryError>
+        ensures { MatchResult result (LaidOut cpus blocks (length lent.now.words.now) (length lent.now.held.now) (length lent.now.free.now) (length lent.now.late.now)) (λ e. misfit cpus blocks (length lent.now.words.now) (length lent.now.held.now) (length lent.now.free.now) (length lent.now.late.now) ≡ Some e) }
     {
         if cpus == 0 || cpus as usize > MOST_CPUS {
             return Err(MemoryError::Cpus);
         }
-        if blocks < LEAST_BLOCKS || blocks > MOST_BLOCKS {
+        if !(LEAST_BLOCKS..=MOST_BLOCKS).contains(&blocks) {
             return Err(MemoryError::Blocks);
         }
-        if words.len() != BLOCK_WORDS * blocks as usize {
+        if lent.words.len() != BLOCK_WORDS * blocks as usize {
             return Err(MemoryError::Words);
         }
-        if held.len() != blocks as usize {
+        if lent.held.len() != blocks as usize {
             return Err(MemoryError::Marks);
         }
-        if free.len() != blocks as usize {
+        if lent.free.len() != blocks as usize {
             return Err(MemoryError::Stack);
         }
-        if late.len() == 0 || late.len() % MOST_CPUS != 0 {
+        if lent.late.is_empty() || lent.late.len() % MOST_CPUS != 0 {
             return Err(MemoryError::Rows);
         }
         Ok(Layout {
             cpus,
             blocks,
-            room: late.len() / MOST_CPUS,
+            room: lent.late.len() / MOST_CPUS,
         })
     }
 }
@@ -56,9 +50,7 @@ fn clear_first(words: &mut [u64])
     ensures noughts { (w : ℕ) → w < 48 → slice_index words.new w ≡ 0 }
     ensures kept { (i : ℕ) → 48 ≤ i → slice_index words.new i ≡ slice_index words.old i }
 {
-    for w in 0..BLOCK_WORDS {
-        words[w] = 0;
-    }
+    words[..BLOCK_WORDS].fill(0);
 }
 
 // Block 0 is held, and no other.
@@ -66,9 +58,8 @@ fn hold_first(held: &mut [bool])
     requires { 0 < length held.old }
     ensures { (b : ℕ) → held_of held.new b ≡ (b == 0) }
 {
-    for b in 0..held.len() {
-        held[b] = b == 0;
-    }
+    held.fill(false);
+    held[0] = true;
 }
 
 // All others are on the stack, block 1 on top.
@@ -76,8 +67,9 @@ fn stack_others(free: &mut [u32], blocks: u32)
     requires { (length free.old ≡ blocks) × (0 < blocks) }
     ensures { (i : ℕ) → i < blocks - 1 → slice_index free.new i ≡ blocks - 1 - i }
 {
-    for i in 0..blocks - 1 {
-        free[i as usize] = blocks - 1 - i;
+    let others = blocks - 1;
+    for (i, place) in free[..others as usize].iter_mut().enumerate() {
+        *place = others - i as u32;
     }
 }
 
@@ -85,29 +77,23 @@ fn stack_others(free: &mut [u32], blocks: u32)
 fn clear_rows(late: &mut [LateStore])
     ensures { (i : ℕ) → slice_index_or late.new i no_store ≡ no_store }
 {
-    for i in 0..late.len() {
-        late[i] = LateStore {
-            block: 0,
-            word: 0,
-            x: 0,
-        };
-    }
+    late.fill(LateStore::default());
 }
 
 impl<'a> SharedMemory<'a> {
     // A memory as it starts. Block 0 is noughts; the words of the others stay as they are.
-    pub fn new(
-        layout: Layout,
-        words: &'a mut [u64],
-        held: &'a mut [bool],
-        free: &'a mut [u32],
-        late: &'a mut [LateStore],
-    ) -> SharedMemory<'a>
-        requires { LentFor layout (length words.old) (length held.old) (length free.old) (length late.old) }
+    pub fn new(layout: Layout, lent: LentMemory<'a>) -> SharedMemory<'a>
+        requires { LentFor layout (length lent.words.now) (length lent.held.now) (length lent.free.now) (length lent.late.now) }
         ensures starts { AtStart (mem_of result) }
         ensures sized { (result.layout ≡ layout) × ((mem_of result).left ≡ 0) }
-        ensures kept { (b w : ℕ) → 0 < b → (mem_of result).val b w ≡ val_of words.old b w }
+        ensures kept { (b w : ℕ) → 0 < b → (mem_of result).val b w ≡ val_of lent.entry.words.now b w }
     {
+        let LentMemory {
+            words,
+            held,
+            free,
+            late,
+        } = lent;
         clear_first(words);
         hold_first(held);
         stack_others(free, layout.blocks);

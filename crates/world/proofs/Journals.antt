@@ -1,7 +1,7 @@
 -- What one more word, and one more event, make of a journal.
 -- Assumes nothing.
-use Rattle.std.proofs.Common.{◌≡◌, ℕ, zero, suc, ◌+◌, ◌-◌, ◌<◌, ◌≤◌, min, true, false, ltb, leb, ◌≢◌, List, [], ◌∷◌, length, get_or, take, drop, set, sym, refl, ap, inl, inr, add-one, arith, drop-cons, get_or-set_other, get_or-set_same}
-use Rattle.std.proofs.lemmas.List.{take_all, drop_all, length-take, length-take-le, get_or-take}
+use Rattle.std.proofs.Common.{◌≡◌, ℕ, zero, suc, ◌+◌, ◌-◌, ◌<◌, ◌≤◌, min, true, false, ltb, leb, ◌≢◌, List, [], ◌∷◌, length, take, set, refl, ap, inl, inr, add-one, arith, get_or-set_other, get_or-set_same}
+use Rattle.std.proofs.lemmas.List.{take_all}
 use Rattle.std.proofs.lemmas.Bool.{cases_Bool}
 use Rattle.std.proofs.lemmas.Bool.Decides.{nat_tests}
 use Rattle.routes.specs.declared.Ask.TheVariants.{Find, Change}
@@ -85,21 +85,9 @@ unfolding skip_pieces
 piece_skipped x y n ws = refl
 
 -- no piece is past the last
-pub pieces_none : (n : ℕ) (ps : List Piece) (ws : List ℕ) → read_pieces (n - n) ws ≡ drop n (take n ps)
+pub read_none : (n : ℕ) (ws : List ℕ) → read_pieces (n - n) ws ≡ []
 unfolding read_pieces
-pieces_none n ps ws =
-    let z : n - n ≡ 0 = omega arith in
-    let l = length-take n ps in
-    rw z (sym (drop_all n (take n ps) (grind (arith, nat_tests))))
-
--- one piece more, in front
-pub pieces_more : (n j : ℕ) (ps : List Piece) (d : Piece) → j < n → n ≤ length ps → drop j (take n ps) ≡ get_or ps j d ∷ drop (suc j) (take n ps)
-pieces_more n j ps d l m =
-    let e = length-take-le n ps m in
-    let h : j < length (take n ps) = omega arith in
-    let t = get_or-take n ps j d l in
-    let c = drop-cons (take n ps) j d h in
-    cc
+read_none n ws = let z : n - n ≡ 0 = omega arith in rw z refl
 
 pub skip_none : (n : ℕ) (ws : List ℕ) → skip_pieces (n - n) ws ≡ ws
 unfolding skip_pieces

@@ -1,5 +1,5 @@
 // What processors ask goes to the memory, and the schedule is shown it.
-ghost use Rattle.std.specs.Prelude.{◌≡◌};
+ghost use Rattle.std.specs.Prelude.{◌≡◌, ◌<◌, T, length};
 ghost use Rattle.routes.specs.Memory.{fenced, Arrives};
 ghost use Rattle.memory.specs.Memories.{mem_of};
 ghost use Rattle.world.specs.Journals.{seen_of};
@@ -14,10 +14,7 @@ use routes::act::Act;
 fn reply_of(got: Option<u32>) -> u64
     ensures { result ≡ reply_of got }
 {
-    match got {
-        Some(block) => block as u64 + 1,
-        None => 0,
-    }
+    got.map_or(0, |block| block as u64 + 1)
 }
 
 impl<S: Schedule> ScheduledWorld<'_, '_, '_, '_, '_, S> {
@@ -25,15 +22,14 @@ impl<S: Schedule> ScheduledWorld<'_, '_, '_, '_, '_, S> {
     pub(crate) fn arrive(&mut self, p: u32) -> bool
         ensures arrives { Arrives (mem_of self.old.memory.now) (mem_of self.new.memory.now) }
         ensures still { fenced p (mem_of self.new.memory.now) ≡ fenced p (mem_of self.old.memory.now) }
+        ensures fewer { T result → length ((mem_of self.new.memory.now).late p) < length ((mem_of self.old.memory.now).late p) }
         ensures unseen { seen_of self.new.journal.now ≡ seen_of self.old.journal.now }
     {
-        match self.memory.arrive_oldest(p) {
-            Some(store) => {
-                self.schedule.arrived(p, store);
-                true
-            }
-            None => false,
-        }
+        let Some(store) = self.memory.arrive_oldest(p) else {
+            return false;
+        };
+        self.schedule.arrived(p, store);
+        true
     }
 
     // The stores of a processor arrive, one by one.
@@ -41,11 +37,7 @@ impl<S: Schedule> ScheduledWorld<'_, '_, '_, '_, '_, S> {
         ensures still { fenced p (mem_of self.new.memory.now) ≡ fenced p (mem_of self.old.memory.now) }
         ensures unseen { seen_of self.new.journal.now ≡ seen_of self.old.journal.now }
     {
-        for _ in 0..u64::MAX {
-            if !self.arrive(p) {
-                break;
-            }
-        }
+        while self.arrive(p) {}
     }
 }
 

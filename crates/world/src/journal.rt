@@ -1,5 +1,5 @@
 // What was seen, noted in lent slices: a byte for each event, and words for what it says beside.
-ghost use Rattle.std.specs.Prelude.{◌≡◌, ℕ, suc, ◌+◌, ◌*◌, ◌<◌, ◌≤◌, false, T, [], ◌∷◌, length, take};
+ghost use Rattle.std.specs.Prelude.{◌≡◌, ℕ, suc, ◌+◌, ◌*◌, ◌<◌, ◌≤◌, false, T, [], ◌∷◌, length};
 ghost use Rattle.routes.specs.Routes.{Asked, Told, Turned};
 ghost use Rattle.routes.specs.Asked.{pieces_of};
 ghost use Rattle.world.specs.Notes.{read_pieces, skip_pieces};
@@ -9,6 +9,7 @@ use crate::notes::{first_word, second_word, told_word};
 use routes::{Answer, Ask, Piece};
 
 // Kinds of events: a turn of a processor is its number, and others are that and one of these.
+// Numbers, and slices with their counts beside them: a caller in Rust or C lends them and reads them.
 pub const TOLD: u8 = 16;
 
 pub const ASKED_FIND: u8 = 32;
@@ -76,16 +77,16 @@ impl<'a> Journal<'a> {
         self.note(first_word(piece));
     }
 
-    // The words of the first pieces, the first piece on top.
-    fn note_pieces(&mut self, pieces: &[Piece], count: usize)
-        requires { (count ≤ length pieces.now) × (2 * count ≤ room_of self.old) }
-        ensures read { read_pieces count (notes_of self.new) ≡ take count pieces.now }
-        ensures skipped { skip_pieces count (notes_of self.new) ≡ notes_of self.old }
+    // The words of pieces, the first piece on top.
+    fn note_pieces(&mut self, pieces: &[Piece])
+        requires { 2 * length pieces.now ≤ room_of self.old }
+        ensures read { read_pieces (length pieces.now) (notes_of self.new) ≡ pieces.now }
+        ensures skipped { skip_pieces (length pieces.now) (notes_of self.new) ≡ notes_of self.old }
         ensures kinds { kinds_of self.new ≡ kinds_of self.old }
-        ensures room { (room_of self.new + 2 * count ≡ room_of self.old) × (event_room_of self.new ≡ event_room_of self.old) }
+        ensures room { (room_of self.new + 2 * length pieces.now ≡ room_of self.old) × (event_room_of self.new ≡ event_room_of self.old) }
     {
-        for k in (0..count).rev() {
-            self.note_piece(pieces[k]);
+        for piece in pieces.iter().rev() {
+            self.note_piece(*piece);
         }
     }
 
@@ -139,8 +140,8 @@ impl<'a> Journal<'a> {
     }
 
     // An update was asked of a processor.
-    fn asked_change(&mut self, p: u32, size: u32, pieces: &[Piece]) -> bool
-        requires { (p < 16) × (length pieces.now ≡ 8) }
+    fn asked_change(&mut self, p: u32, size: u32, pieces: &[Piece; 8]) -> bool
+        requires { p < 16 }
         ensures seen { T result → seen_of self.new ≡ Asked p (Ask.Change size) (pieces_of (Ask.Change size) pieces.now) ∷ seen_of self.old }
         ensures unseen { result ≡ false → seen_of self.new ≡ seen_of self.old }
     {
@@ -148,15 +149,15 @@ impl<'a> Journal<'a> {
         if !self.has_room(2 * count + 1) {
             return false;
         }
-        self.note_pieces(pieces, count);
+        self.note_pieces(&pieces[..count]);
         self.note(size as u64);
         self.end(ASKED_CHANGE + p as u8);
         true
     }
 
     // Something was asked of a processor; false if there is no room.
-    pub fn asked(&mut self, p: u32, ask: Ask, pieces: &[Piece]) -> bool
-        requires { (p < 16) × (length pieces.now ≡ 8) }
+    pub fn asked(&mut self, p: u32, ask: Ask, pieces: &[Piece; 8]) -> bool
+        requires { p < 16 }
         ensures seen { T result → seen_of self.new ≡ Asked p ask (pieces_of ask pieces.now) ∷ seen_of self.old }
         ensures unseen { result ≡ false → seen_of self.new ≡ seen_of self.old }
     {

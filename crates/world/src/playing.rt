@@ -46,5 +46,5 @@ pub fn play<S: Schedule>(
         busy: [false; MOST_CPUS],
         schedule,
     };
-    run(&mut world, &mut cpus[0..count], own, &mut pieces);
+    run(&mut world, &mut cpus[..count], own, &mut pieces);
 }

@@ -1,7 +1,7 @@
 // Whose turn it is, what begins, and what is told.
-ghost use Rattle.std.specs.Prelude.{◌≡◌, ◌<◌, not, T, length};
+ghost use Rattle.std.specs.Prelude.{◌≡◌, ◌<◌, not, T};
 ghost use Rattle.routes.specs.Asked.{Next};
-ghost use Rattle.routes.specs.Memory.{allowed};
+ghost use Rattle.routes.specs.Memory.{allowed, Arrives};
 ghost use Rattle.routes.specs.Routes.{under};
 ghost use Rattle.memory.specs.Memories.{mem_of};
 ghost use Rattle.world.specs.Journals.{seen_of};
@@ -26,8 +26,8 @@ impl<S: Schedule> ScheduledWorld<'_, '_, '_, '_, '_, S> {
     }
 
     // Something begins on a processor, unless there is no room to note it.
-    fn begin(&mut self, p: u32, ask: Ask, pieces: &[Piece]) -> (u32, Turn)
-        requires { (p < (mem_of self.old.memory.now).cpus) × ((T (not (under p (seen_of self.old.journal.now)))) × (length pieces.now ≡ 8)) }
+    fn begin(&mut self, p: u32, ask: Ask, pieces: &[Piece; 8]) -> (u32, Turn)
+        requires { (p < (mem_of self.old.memory.now).cpus) × T (not (under p (seen_of self.old.journal.now))) }
         ensures next { Next result.1 result.0 pieces.now (mem_of self.old.memory.now) (seen_of self.old.journal.now) (seen_of self.new.journal.now) }
         ensures allowed { mem_of self.new.memory.now ≡ allowed result.0 (mem_of self.old.memory.now) }
     {
@@ -56,10 +56,13 @@ impl<S: Schedule> ScheduledWorld<'_, '_, '_, '_, '_, S> {
         self.memory.allow(0);
         (0, Turn::Over)
     }
-}
 
-impl<S: Schedule> World for ScheduledWorld<'_, '_, '_, '_, '_, S> {
-    fn next(&mut self, pieces: &mut [Piece]) -> (u32, Turn) {
+    // What the schedule says next, of what may be.
+    fn next_turn(&mut self, pieces: &mut [Piece; 8]) -> (u32, Turn)
+        ensures next { Next result.1 result.0 pieces.new (mem_of self.old.memory.now) (seen_of self.old.journal.now) (seen_of self.new.journal.now) }
+        ensures arrives { Arrives (allowed result.0 (mem_of self.old.memory.now)) (mem_of self.new.memory.now) }
+    {
+        // a count, since a schedule that never says what may be would go on for ever
         for _ in 0..u64::MAX {
             match self.schedule.next(&self.busy, pieces) {
                 Move::Begin { cpu, ask } => {
@@ -79,6 +82,15 @@ impl<S: Schedule> World for ScheduledWorld<'_, '_, '_, '_, '_, S> {
             }
         }
         self.stop()
+    }
+}
+
+impl<S: Schedule> World for ScheduledWorld<'_, '_, '_, '_, '_, S> {
+    fn next(&mut self, pieces: &mut [Piece]) -> (u32, Turn) {
+        match pieces.as_mut_array() {
+            Some(row) => self.next_turn(row),
+            None => self.stop(),
+        }
     }
 
     fn turned(&mut self, p: u32) -> bool {

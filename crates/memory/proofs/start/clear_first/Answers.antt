@@ -1,9 +1,8 @@
-use Rattle.std.proofs.Common.{◌∙◌, arith, get_or-set_other}
-use Rattle.std.proofs.lemmas.List.Edits.{fill_by_more}
+use Rattle.std.proofs.Common.{replicate, ap, ◌∙◌, length-take-le, rules}
+use Rattle.memory.proofs.Starts.{first_cleared}
 use Rattle.memory.proofs.start.clear_first.Goals as goal
 
-pub loop-w-preserved : goal.loop-w-preserved
-loop-w-preserved c = (
-  fill_by_more (λ k. 0) c.loop-w.words c.loop-w.w 0 (omega (arith, c.requires, c.loop-w.auto.words, c.loop-w-test.true)) c.loop-w.invariant.0,
-  (λ k h. get_or-set_other c.loop-w.words c.loop-w.w k 0 0 (omega (arith, c.loop-w-test.true)) ∙ c.loop-w.invariant.1 k h),
-)
+pub returns : goal.returns
+returns c =
+    let cleared = first_cleared c.fill.new.self c.args.words.now (c.fill.ensures.after (λ y e. search rules) ∙ ap (λ n. replicate n 0) (length-take-le 48 _ c.requires)) in
+    record { noughts = cleared.0; kept = cleared.1 }

@@ -6,11 +6,11 @@ use Rattle.memory.proofs.Pools.{obtained_free, obtained_apart, obtained-count}
 use Rattle.memory.proofs.Memories.{mark_set}
 use Rattle.memory.proofs.shared.SharedMemory.take_block.Goals as goal
 
-pub invariant_of-self-in-Some : goal.invariant_of-self-in-Some
-invariant_of-self-in-Some c =
+pub invariant_of-self-2 : goal.invariant_of-self-2
+invariant_of-self-2 c =
     let self = c.args.self.now in
-    let top = c.in-Some.ensures.top in
-    let free = c.in-Some.ensures.free in record {
+    let top = c.in_ok-block.ensures.top in
+    let free = c.in_ok-block.ensures.free in record {
       wide = self.wide;
       marked = length-set _ _ _ ∙ self.marked;
       stacked = self.stacked;
@@ -23,11 +23,11 @@ invariant_of-self-in-Some c =
       bound = self.bound;
     }
 
-pub returns-in-Some : goal.returns-in-Some
-returns-in-Some c =
+pub returns : goal.returns
+returns c =
     let self = c.args.self.now in
-    let free = c.in-Some.ensures.free in
+    let free = c.in_ok-block.ensures.free in
     got _ _ _ free.0 free.1 (λ b w n. refl) (λ w. val_small self.words.now _ w) (arrives_same (sym (mark_set _ _ _ _ _ _ _ _ _ _ _ (omega (arith, self.marked, free.0)))))
 
-pub returns-in-None : goal.returns-in-None
-returns-in-None c = out _ c.in-None.ensures.free (rest _)
+pub returns-in_err-block : goal.returns-in_err-block
+returns-in_err-block c = rw c.from_residual.ensures (out _ c.in_err-block.ensures.free (rest _))

@@ -1,29 +1,43 @@
-use Rattle.std.proofs.Common.{◌≡◌, suc, ◌-◌, take, drop, refl, arith}
-use Rattle.routes.specs.Machine.Begins.{blank}
-use Rattle.world.proofs.Journals.{pieces_none, pieces_more, skip_none}
+use Rattle.std.proofs.Common.{◌≡◌, suc, ◌+◌, ◌-◌, ◌∷◌, [], ◌++◌, length, sym, refl, ap, ◌∙◌, append_assoc, append-nil, length-append, arith}
+use Rattle.std.proofs.lemmas.List.{nil_from_length}
+use Rattle.std.specs.Slice.Iter.{iter_rest}
+use Rattle.world.specs.Notes.{read_pieces}
+use Rattle.world.specs.Journals.{notes_of}
+use Rattle.world.proofs.Journals.{read_none, skip_none}
 use Rattle.world.proofs.journal.Journal.note_pieces.Goals as goal
 
-pub loop-k-init : goal.loop-k-init
-loop-k-init c = (pieces_none c.args.count c.args.pieces.now _, skip_none c.args.count _, refl, omega arith, refl)
+pub loop-piece-init : goal.loop-piece-init
+loop-piece-init c =
+    let start : iter_rest c.into_iter-piece-iterator.result.iter ≡ c.args.pieces.now = ap (λ s. iter_rest s.iter) c.into_iter-piece-iterator.ensures.into_iter_gives ∙ (ap iter_rest c.rev-piece-items.ensures.source ∙ c.iter.ensures.rest) in
+    rw start (record { left = omega arith; read = ap (λ ps. c.args.pieces.now ++ ps) (read_none (length c.args.pieces.now) _) ∙ append-nil _; skipped = skip_none (length c.args.pieces.now) _; kinds = refl; room = omega arith; events = refl })
 
-pub loop-k-preserved : goal.loop-k-preserved
-loop-k-preserved c =
-    let i = c.loop-k.invariant in
-    let n = c.args.count - c.loop-k.k in
-    let m : c.args.count - (c.loop-k.k - 1) ≡ suc n = omega arith in
-    let k : suc (c.loop-k.k - 1) ≡ c.loop-k.k = omega arith in
-    let f = pieces_more c.args.count (c.loop-k.k - 1) c.args.pieces.now blank (omega arith) c.requires.0 in
-    let r = c.note_piece.ensures.read n in
-    let s = c.note_piece.ensures.skipped n in
-    (cc, cc, cc, omega arith, cc)
+pub loop-piece-preserved : goal.loop-piece-preserved
+loop-piece-preserved c =
+    let i = c.loop-piece.invariant in
+    let rest = iter_rest c.next.new.self.iter in
+    let before = iter_rest c.loop-piece.piece-iterator.iter in
+    let n = length c.args.pieces.now in
+    let step = c.in-Some.ensures.steps in
+    let long : length before ≡ length rest + 1 = ap length step ∙ length-append rest (c.in-Some.piece.now ∷ []) in
+    let m : n - length rest ≡ suc (n - length before) = omega (arith, long, i.left) in
+    let behind = read_pieces (n - length before) (notes_of c.loop-piece.self) in
+    rw m (record {
+      left = omega (arith, long, i.left);
+      read = ap (λ ps. rest ++ ps) (c.note_piece.ensures.read _) ∙ (sym (append_assoc rest (c.in-Some.piece.now ∷ []) behind) ∙ (ap (λ ps. ps ++ behind) (sym step) ∙ i.read));
+      skipped = c.note_piece.ensures.skipped _ ∙ i.skipped;
+      kinds = c.note_piece.ensures.kinds ∙ i.kinds;
+      room = omega (arith, c.note_piece.ensures.room.0, i.room);
+      events = c.note_piece.ensures.room.1 ∙ i.events;
+    })
 
 pub returns : goal.returns
 returns c =
-    let i = c.loop-k.invariant in
-    let z : c.loop-k.k ≡ 0 = omega arith in
-    let m : c.args.count - c.loop-k.k ≡ c.args.count = omega arith in
-    let d : drop c.loop-k.k (take c.args.count c.args.pieces.now) ≡ take c.args.count c.args.pieces.now = rw z refl in
-    record { read = cc; skipped = cc; kinds = i.2; room = (omega arith, i.4) }
+    let i = c.loop-piece.invariant in
+    let none = nil_from_length (iter_rest c.loop-piece.piece-iterator.iter) c.in-None.ensures.steps.0 in
+    let whole : length c.args.pieces.now - length (iter_rest c.loop-piece.piece-iterator.iter) ≡ length c.args.pieces.now = omega (arith, c.in-None.ensures.steps.0) in
+    record { read = rw none at (rw whole at i.read); skipped = rw whole at i.skipped; kinds = i.kinds; room = (rw whole at i.room, i.events) }
 
 pub note_piece-requires : goal.note_piece-requires
-note_piece-requires c = omega arith
+note_piece-requires c =
+    let long : length (iter_rest c.loop-piece.piece-iterator.iter) ≡ length (iter_rest c.next.new.self.iter) + 1 = ap length c.in-Some.ensures.steps ∙ length-append (iter_rest c.next.new.self.iter) (c.in-Some.piece.now ∷ []) in
+    omega (arith, long, c.loop-piece.invariant.room, c.loop-piece.invariant.left, c.requires)

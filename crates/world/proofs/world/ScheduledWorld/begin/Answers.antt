@@ -10,4 +10,4 @@ pub invariant_of-self-2 : goal.invariant_of-self-2
 invariant_of-self-2 g c = record { sixteen = simp length-set c.args.self.now.sixteen; marks = marks_asked _ _ _ c.args.p c.args.ask _ c.args.self.now.marks c.args.self.now.sixteen (omega (arith, c.args.self.now.memory.now.layout.few)) (c.if-not-asked.ensures.seen tt) }
 
 pub returns : goal.returns
-returns g c = record { next = next_begin c.args.ask c.args.p _ _ _ _ c.requires.0 c.requires.1.0 (c.if-not-asked.ensures.seen tt); allowed = c.allow.ensures }
+returns g c = record { next = next_begin c.args.ask c.args.p _ _ _ _ c.requires.0 c.requires.1 (c.if-not-asked.ensures.seen tt); allowed = c.allow.ensures }

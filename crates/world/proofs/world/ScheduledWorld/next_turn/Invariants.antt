@@ -2,7 +2,7 @@ use Rattle.std.proofs.Common.{◌≡◌}
 use Rattle.routes.specs.Memory.{Arrives}
 use Rattle.memory.specs.Memories.{mem_of}
 use Rattle.world.specs.Journals.{seen_of}
-use Rattle.world.proofs.turn.ScheduledWorldWorld.next.Given as goal
+use Rattle.world.proofs.world.ScheduledWorld.next_turn.Given as goal
 
 -- stores arrive, and nothing is seen
 abbrev pub invariant-loop : goal.invariant-loop

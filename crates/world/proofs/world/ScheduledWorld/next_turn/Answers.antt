@@ -4,19 +4,19 @@ use Rattle.routes.proofs.Late.Arriving.{arrives_on}
 use Rattle.memory.specs.Memories.{mem_of}
 use Rattle.world.specs.Journals.{seen_of}
 use Rattle.world.proofs.Turns.{next_arrived, next_over, next_go, turn_given}
-use Rattle.world.proofs.turn.ScheduledWorldWorld.next.Goals as goal
-use Rattle.world.proofs.turn.ScheduledWorldWorld.next.Goals.{in-Begin+else-may_begin, in-Go+else-may_go, in-Arrive, else-loop-test, then-loop-test+in-Over}
+use Rattle.world.proofs.world.ScheduledWorld.next_turn.Goals as goal
+use Rattle.world.proofs.world.ScheduledWorld.next_turn.Goals.{in-Begin+else-may_begin, in-Go+else-may_go, in-Arrive, else-loop-test, then-loop-test+in-Over}
 
 pub loop-init : goal.loop-init
 loop-init g c = (rest _, refl)
 
 pub returns-then-may_begin : goal.returns-then-may_begin
-returns-then-may_begin g c = (next_arrived c.begin.result.1 c.begin.result.0 _ _ _ _ c.loop.invariant.0 c.loop.invariant.1 c.begin.ensures.next, turn_given c.begin.result.0 c.loop.invariant.0 c.begin.ensures.allowed)
+returns-then-may_begin g c = record { next = next_arrived c.begin.result.1 c.begin.result.0 _ _ _ _ c.loop.invariant.0 c.loop.invariant.1 c.begin.ensures.next; arrives = turn_given c.begin.result.0 c.loop.invariant.0 c.begin.ensures.allowed }
 
 pub returns-then-may_go : goal.returns-then-may_go
 returns-then-may_go g c =
     let h = c.if-may_go.ensures tt in
-    (next_arrived c.go.result.1 c.go.result.0 _ _ _ _ c.loop.invariant.0 c.loop.invariant.1 (next_go c.go.result _ _ _ _ _ c.go.ensures.next h.0 h.1 c.go.ensures.unseen), turn_given c.go.result.0 c.loop.invariant.0 c.go.ensures.allowed)
+    record { next = next_arrived c.go.result.1 c.go.result.0 _ _ _ _ c.loop.invariant.0 c.loop.invariant.1 (next_go c.go.result _ _ _ _ _ c.go.ensures.next h.0 h.1 c.go.ensures.unseen); arrives = turn_given c.go.result.0 c.loop.invariant.0 c.go.ensures.allowed }
 
 pub loop-preserved : goal.loop-preserved
 loop-preserved g c = elim c.match-next.branch [
@@ -29,4 +29,4 @@ pub returns : goal.returns
 returns g c =
     let left : Arrives (mem_of c.args.self.now.memory.now) (mem_of c.loop-test.self.memory.now) × (seen_of c.loop-test.self.journal.now ≡ seen_of c.args.self.now.journal.now) =
     elim c.loop-test.branch [ else-loop-test w ↦ rw w.self-is c.loop.invariant | then-loop-test+in-Over w ↦ rw w.self-is c.loop.invariant ] in
-    (next_over c.stop.result _ _ _ _ c.stop.ensures.next (c.stop.ensures.unseen ∙ left.1), turn_given c.stop.result.0 left.0 c.stop.ensures.allowed)
+    record { next = next_over c.stop.result _ _ _ _ c.stop.ensures.next (c.stop.ensures.unseen ∙ left.1); arrives = turn_given c.stop.result.0 left.0 c.stop.ensures.allowed }

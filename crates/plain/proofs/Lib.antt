@@ -1,5 +1,3 @@
 pub mod RouteLists
-pub mod Kept
-pub mod Searched
 pub mod OnePiece
 pub mod AllPieces

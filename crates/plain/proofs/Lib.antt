@@ -1,3 +1,4 @@
+pub mod Picked
 pub mod RouteLists
 pub mod OnePiece
 pub mod AllPieces

@@ -1,5 +1,4 @@
+pub mod Picked
 pub mod RouteLists
-pub mod Kept
-pub mod Searched
 pub mod OnePiece
 pub mod AllPieces

@@ -1,35 +1,65 @@
--- The routes of a row of entries: how many they are, and what a write to the row makes of them.
-use Rattle.std.proofs.Common.{◌≡◌, ℕ, zero, suc, ◌+◌, ◌-◌, ◌<◌, ◌≤◌, ◌≢◌, List, ◌∷◌, length, get_or, set, refl, ap, add-one, sub-one, arith, get_or-set_other, get_or-set_same}
-use Rattle.std.proofs.lemmas.List.{get_or_default}
-use Rattle.routes.specs.Routes.{Route}
+-- The routes of a row of entries: how many they are, what a change of the row makes of them, and what is looked for in them.
+use Rattle.std.proofs.Common.{◌≡◌, ℕ, not, Bool, ◌&&◌, leb, List, [], ◌∷◌, ◌++◌, length, map, reverse, filter, fold, refl, ap, ◌∙◌, sym, inl, inr, Option, Some, None, append-nil}
+use Rattle.std.specs.List.{list_any}
+use Rattle.std.proofs.lemmas.Bool.{cases_Bool}
+use Rattle.std.proofs.lemmas.List.{length-map, length-reverse, reverse-append}
+use Rattle.std.proofs.lemmas.List.Elements.{filter-append}
+use Rattle.std.proofs.lemmas.List.Sorted.{IsPermutation-reverse, list_any-IsPermutation}
+use Rattle.routes.specs.declared.prefix.Prefix.{Prefix}
+use Rattle.routes.specs.Routes.{fits, longest, find, has, without}
 use Rattle.plain.specs.declared.entry.Entry.{Entry}
-use Rattle.plain.specs.Entries.{blank, route_of, routes_of}
+use Rattle.plain.specs.Entries.{has_prefix, route_of, routes_of}
+use Rattle.plain.specs.Lookups.{found_of, least_of, better_of}
 
 -- There is a route for each entry.
-pub length-routes : (es : List Entry) (n : ℕ) → length (routes_of es n) ≡ n
-length-routes es zero = refl
-length-routes es (suc n) = ap suc (length-routes es n)
+pub length-routes : (es : List Entry) → length (routes_of es) ≡ length es
+length-routes es = length-map (reverse es) route_of ∙ length-reverse es
 
 -- One more entry is one more route in front.
-pub routes_more : (es : List Entry) (n : ℕ) → routes_of es (n + 1) ≡ route_of (get_or es n blank) ∷ routes_of es n
-routes_more es n = rw add-one
+pub routes_push : (es : List Entry) (e : Entry) → routes_of (es ++ e ∷ []) ≡ route_of e ∷ routes_of es
+routes_push es e = ap (map route_of) (reverse-append es (e ∷ []))
 
--- The last entry, read at any default, is the route in front.
-pub routes_last : (es : List Entry) (n : ℕ) (d : Entry) → 0 < n → n ≤ length es → routes_of es n ≡ route_of (get_or es (n - 1) d) ∷ routes_of es (n - 1)
-routes_last es zero d h k = absurd (omega arith)
-routes_last es (suc n) d h k = rw (sub-one, get_or_default es n blank d (omega arith))
+-- A filter of a row, read from its end.
+reverse-filter : (test : Entry → Bool) (es : List Entry) → reverse (filter test es) ≡ filter test (reverse es)
+reverse-filter test [] = refl
+reverse-filter test (e ∷ es) =
+    let ih = reverse-filter test es in
+    rw (reverse-append (e ∷ []) es, filter-append) (elim (cases_Bool (test e)) [
+      | inl t ↦ rw (t, reverse-append (e ∷ []), ih) refl
+      | inr f ↦ rw (f, ih) (sym (append-nil (filter test (reverse es))))
+    ])
 
--- A write behind the entries that count changes no route.
-pub routes-set_behind : (es : List Entry) (k : ℕ) (e : Entry) (n : ℕ) → n ≤ k → routes_of (set es k e) n ≡ routes_of es n
-routes-set_behind es k e zero h = refl
-routes-set_behind es k e (suc n) h =
-    let ne : n ≢ k = omega arith in
-    rw (get_or-set_other es k n e blank ne, routes-set_behind es k e n (omega arith))
+-- Without the entries of a prefix there are the routes without those of it.
+filtered_routes : (p : Prefix) (es : List Entry) → map route_of (filter (λ e. not (has_prefix p e)) es) ≡ without p.len p.bits (map route_of es)
+unfolding without
+filtered_routes p [] = refl
+filtered_routes p (e ∷ es) =
+    let ih = filtered_routes p es in
+    elim (cases_Bool (has_prefix p e)) [
+      | inl t ↦ rw (t) ih
+      | inr f ↦ rw (f, ih) refl
+    ]
 
--- A write right behind them, if it counts, puts a route in front.
-pub routes_push : (es : List Entry) (n : ℕ) (e : Entry) → n < length es → routes_of (set es n e) (n + 1) ≡ route_of e ∷ routes_of es n
-routes_push es n e h = rw (routes_more, get_or-set_same es n e blank h, routes-set_behind es n e n (omega arith))
+pub routes_without : (p : Prefix) (es : List Entry) → routes_of (filter (λ e. not (has_prefix p e)) es) ≡ without p.len p.bits (routes_of es)
+routes_without p es = ap (map route_of) (reverse-filter (λ e. not (has_prefix p e)) es) ∙ filtered_routes p (reverse es)
 
--- The same of rows that are known by equations.
-pub routes_pushed : (es fs : List Entry) (n m : ℕ) (e : Entry) (rs : List Route) → n < length es → fs ≡ set es n e → m ≡ n + 1 → routes_of es n ≡ rs → routes_of fs m ≡ route_of e ∷ rs
-routes_pushed es fs n m e rs h f k r = rw (f, k, routes_push es n e h, r)
+-- A route of a prefix is there where an entry has the prefix.
+any_has : (p : Prefix) (es : List Entry) → list_any (has_prefix p) es ≡ has p.len p.bits (map route_of es)
+unfolding has
+any_has p [] = refl
+any_has p (e ∷ es) = rw (any_has p es) refl
+
+pub routes_have : (p : Prefix) (es : List Entry) → list_any (has_prefix p) es ≡ has p.len p.bits (routes_of es)
+routes_have p es = list_any-IsPermutation (has_prefix p) es (reverse es) (IsPermutation-reverse es) ∙ any_has p (reverse es)
+
+-- The longest route is found by taking the better of the best so far and each entry in turn.
+longest_from : (a : ℕ) (best : Option Entry) (es : List Entry) → found_of (fold (better_of a) best es) ≡ longest a (map route_of es) (found_of best) (least_of best)
+unfolding longest
+longest_from a best [] = refl
+longest_from a best (e ∷ es) = elim (cases_Bool (fits e.prefix.len e.prefix.bits a && leb (least_of best) e.prefix.len)) [
+  | inl t ↦ rw (t) (longest_from a (Some e) es)
+  | inr f ↦ rw (f) (longest_from a best es)
+]
+
+pub longest_found : (a : ℕ) (es : List Entry) → found_of (fold (better_of a) None (reverse es)) ≡ find a (routes_of es)
+longest_found a es = longest_from a None (reverse es)

@@ -1,6 +1,7 @@
 -- What a change makes of a table, or why it has no effect.
 -- Assumes nothing.
 use Rattle.std.specs.Prelude.{◌≡◌, ◌<◌, List, length, Ok, Err, Result}
+use Rattle.arrayvec.specs.ArrayVec.{array_vec_len}
 use Rattle.routes.specs.declared.Piece.{Piece}
 use Rattle.routes.specs.declared.refusal.Refusal.{Refusal}
 use Rattle.routes.specs.Refusals.{number_of}
@@ -23,7 +24,7 @@ AppliedAll ps before (Err k) after = pieces ps (Table before) ≡ Wrong (number_
 
 -- a copy after all the pieces of a change, whose count is right; or why they are turned away
 abbrev pub Drafted : List Piece → List Route → Result Draft Refusal → Type 0
-Drafted ps before (Ok d) = (changed ps before ≡ Table (draft_routes d)) × (length (draft_routes d) ≡ d.many)
+Drafted ps before (Ok d) = (changed ps before ≡ Table (draft_routes d)) × (length (draft_routes d) ≡ array_vec_len d.entries)
 Drafted ps before (Err k) = changed ps before ≡ Wrong (number_of k)
 
 -- the pieces of a change come to more routes than a table has room for

@@ -1,6 +1,6 @@
 -- The routes that a row of entries holds.
 -- Assumes nothing.
-use Rattle.std.specs.Prelude.{ℕ, zero, suc, Bool, ◌&&◌, List, [], ◌∷◌, ◌==◌, slice_index_or}
+use Rattle.std.specs.Prelude.{ℕ, Bool, ◌&&◌, List, map, reverse, ◌==◌}
 use Rattle.routes.specs.declared.prefix.Prefix.{Prefix}
 use Rattle.routes.specs.Routes.{Route}
 use Rattle.plain.specs.declared.entry.Entry.{Entry}
@@ -20,7 +20,6 @@ route_of e = route_for e.prefix e.tells
 abbrev pub has_prefix : Prefix → Entry → Bool
 has_prefix p e = p.len == e.prefix.len && p.bits == e.prefix.bits
 
--- the routes of the first so many entries, the newest first
-abbrev pub routes_of : List Entry → ℕ → List Route
-routes_of es zero = []
-routes_of es (suc n) = route_of (slice_index_or es n blank) ∷ routes_of es n
+-- the routes of a row of entries, the newest first
+abbrev pub routes_of : List Entry → List Route
+routes_of es = map route_of (reverse es)

@@ -4,5 +4,5 @@
 pub const ROOM: usize = 2048;
 // The pieces of a change, at most.
 pub const MOST_PIECES: usize = 8;
-// The entries of a table and of its copies: work on a copy never runs out of them.
+// The routes of a draft: a change of a full table does not run out of them.
 pub const SLOTS: usize = ROOM + MOST_PIECES;

@@ -1,16 +1,14 @@
 // The table.
-ghost use Rattle.std.specs.Prelude.{◌≤◌};
-
 use super::entry::Entry;
-use super::size::SLOTS;
+use super::size::ROOM;
+use arrayvec::ArrayVec;
 
 mod lookup;
 mod update;
 
-// Its routes are the first so many entries, the newest last.
-#[derive(Clone, Copy)]
+// Its routes, the newest last.
+#[derive(Clone, Drop)]
 pub struct PlainTable {
-    entries: [Entry; SLOTS],
-    many: usize,
-    ghost room: { many ≤ 2048 },
+    entries: ArrayVec<Entry, ROOM>,
 }
+

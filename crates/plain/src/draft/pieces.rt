@@ -1,5 +1,6 @@
 // The pieces of a change, one after the other.
 ghost use Rattle.std.specs.Prelude.{◌+◌, ◌<◌, ◌≤◌, length};
+ghost use Rattle.arrayvec.specs.ArrayVec.{array_vec_len};
 ghost use Rattle.plain.specs.Changes.{Applied, AppliedAll};
 ghost use Rattle.plain.specs.Tables.{draft_routes};
 
@@ -9,9 +10,9 @@ use routes::{Piece, Refusal, make_prefix};
 impl Draft {
     // One piece: a route is put in, or taken out, which must be there.
     pub fn apply(&mut self, piece: Piece) -> Result<(), Refusal>
-        requires { self.old.many < 2056 }
+        requires { array_vec_len self.old.entries < 2056 }
         ensures applied { Applied piece (draft_routes self.old) result (draft_routes self.new) }
-        ensures more { self.new.many ≤ self.old.many + 1 }
+        ensures more { array_vec_len self.new.entries ≤ array_vec_len self.old.entries + 1 }
     {
         let prefix = make_prefix(piece.len as u64, piece.bits as u64)?;
         if piece.puts {
@@ -27,7 +28,7 @@ impl Draft {
 
     // All pieces, up to the first that is turned away.
     pub fn apply_all(&mut self, pieces: &[Piece]) -> Result<(), Refusal>
-        requires { self.old.many + length pieces.now ≤ 2056 }
+        requires { array_vec_len self.old.entries + length pieces.now ≤ 2056 }
         ensures { AppliedAll pieces.now (draft_routes self.old) result (draft_routes self.new) }
     {
         for piece in pieces {

@@ -1,12 +1,13 @@
 // Making a table, and asking it.
 ghost use Rattle.std.specs.Prelude.{◌≡◌, []};
+ghost use Rattle.arrayvec.specs.ArrayVec.{array_vec_len};
 ghost use Rattle.routes.specs.Routes.{find};
-ghost use Rattle.plain.specs.Lookups.{better_of, found_of};
+ghost use Rattle.plain.specs.Lookups.{better_of};
 ghost use Rattle.plain.specs.Tables.{table_routes};
 
 use super::super::entry::Entry;
-use super::super::size::SLOTS;
 use super::PlainTable;
+use arrayvec::ArrayVec;
 use routes::Answer;
 
 impl PlainTable {
@@ -15,27 +16,26 @@ impl PlainTable {
         ensures { table_routes result ≡ [] }
     {
         PlainTable {
-            entries: [Entry::blank(); SLOTS],
-            many: 0,
+            entries: ArrayVec::new(),
         }
     }
 
     // How many routes it has.
     pub fn len(&self) -> usize
-        ensures { result ≡ self.now.many }
+        ensures { result ≡ array_vec_len self.now.entries }
     {
-        self.many
+        self.entries.len()
     }
 
     // The longest route that fits an address, or nothing.
     pub fn find(&self, address: u32) -> Answer
         ensures { result ≡ find address (table_routes self.now) }
     {
-        let mut best = None;
-        for i in (0..self.many).rev() {
-            best = better(best, self.entries[i], address);
-        }
-        found(best)
+        self.entries
+            .iter()
+            .rev()
+            .fold(None, |best, entry| better(best, *entry, address))
+            .map_or(Answer::Nothing, |e| Answer::Found(e.prefix.len, e.tells))
     }
 }
 
@@ -43,23 +43,9 @@ impl PlainTable {
 fn better(best: Option<Entry>, entry: Entry, address: u32) -> Option<Entry>
     ensures { result ≡ better_of address best entry }
 {
-    let longer = match best {
-        Some(b) => b.prefix.len < entry.prefix.len,
-        None => true,
-    };
-    if entry.fits(address) && longer {
+    if entry.fits(address) && best.is_none_or(|b| b.prefix.len < entry.prefix.len) {
         Some(entry)
     } else {
         best
-    }
-}
-
-// What is told of it.
-fn found(best: Option<Entry>) -> Answer
-    ensures { result ≡ found_of best }
-{
-    match best {
-        Some(entry) => Answer::Found(entry.prefix.len, entry.tells),
-        None => Answer::Nothing,
     }
 }

@@ -4,8 +4,9 @@ ghost use Rattle.plain.specs.Tables.{table_routes};
 
 use super::super::change_error::ChangeError;
 use super::super::draft::Draft;
-use super::super::size::{MOST_PIECES, ROOM};
+use super::super::size::MOST_PIECES;
 use super::PlainTable;
+use arrayvec::ArrayVec;
 use routes::{Piece, Refusal};
 
 impl PlainTable {
@@ -13,11 +14,8 @@ impl PlainTable {
     pub fn change(&mut self, pieces: &[Piece]) -> Result<(), ChangeError>
         ensures { Changed pieces.now self.old result self.new }
     {
-        let Draft { entries, many } = self.drafted(pieces)?;
-        if many > ROOM {
-            return Err(ChangeError::NoRoom);
-        }
-        *self = PlainTable { entries, many };
+        let draft = self.drafted(pieces)?;
+        self.entries = ArrayVec::try_from(&draft.entries[..]).map_err(|_| ChangeError::NoRoom)?;
         Ok(())
     }
 
@@ -29,8 +27,7 @@ impl PlainTable {
             return Err(Refusal::PieceCount);
         }
         let mut draft = Draft {
-            entries: self.entries,
-            many: self.many,
+            entries: ArrayVec::try_from(&self.entries[..]).unwrap(),
         };
         draft.apply_all(pieces)?;
         Ok(draft)

@@ -1,4 +1,5 @@
 use Rattle.std.proofs.Common.{◌≡◌, ◌+◌, ◌≤◌, length, drop}
+use Rattle.arrayvec.specs.ArrayVec.{array_vec_len}
 use Rattle.routes.specs.Routes.{Table, pieces}
 use Rattle.plain.specs.Tables.{draft_routes}
 use Rattle.plain.proofs.draft.Draft.apply_all.Given as goal
@@ -7,4 +8,4 @@ use Rattle.plain.proofs.draft.Draft.apply_all.Given as goal
 abbrev pub invariant-loop-piece : goal.invariant-loop-piece
 invariant-loop-piece l =
     (pieces (drop l.piece-index l.pieces) (Table (draft_routes l.self)) ≡ pieces l.pieces (Table (draft_routes l.initial.self)))
-    × (l.self.many + length l.pieces ≤ 2056 + l.piece-index)
+    × (array_vec_len l.self.entries + length l.pieces ≤ 2056 + l.piece-index)

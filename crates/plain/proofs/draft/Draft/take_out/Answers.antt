@@ -1,9 +1,8 @@
-use Rattle.std.proofs.Common.{arith}
-use Rattle.plain.proofs.Kept.{kept_none, kept_more}
+use Rattle.std.proofs.Common.{◌∙◌, rules, ap}
+use Rattle.arrayvec.proofs.ArrayVecLemmas.{filter-from_retain}
+use Rattle.plain.specs.Entries.{routes_of}
+use Rattle.plain.proofs.RouteLists.{routes_without}
 use Rattle.plain.proofs.draft.Draft.take_out.Goals as goal
 
-pub loop-i-init : goal.loop-i-init
-loop-i-init c = kept_none c.args.prefix c.args.self.now.entries
-
-pub loop-i-preserved : goal.loop-i-preserved
-loop-i-preserved c = kept_more c.args.prefix _ c.loop-i.self.entries _ c.loop-i.i (omega arith) c.loop-i.invariant _ _ c.keep_other-next.ensures.moved c.keep_other-next.ensures.counted
+pub returns-clause-routes : goal.returns-clause-routes
+returns-clause-routes c = ap routes_of (filter-from_retain _ _ _ (λ x b f' y called. search rules) _ _ c.retain.ensures.filtered) ∙ routes_without c.args.prefix _

@@ -1,8 +1,8 @@
 // Registers as 16 words, to be kept outside and taken up again.
 ghost use Rattle.std.specs.Prelude.{◌≡◌, ◌%◌, ◌<◌, length, Some as Some'};
-ghost use Rattle.port.specs.Registers.{most_at, narrow as narrow_of, best_in, job_in, fields_in, registers_in, registers_of, cpu_of, cpu_by};
+ghost use Rattle.port.specs.Registers.{most_at, narrow as narrow_of, best_in, job_in, fields_in, registers_in, registers_of, cpu_of};
 
-use crate::fields::{AnswerWords, Fields, Registers, registers_of, work_of};
+use crate::fields::{AnswerWords, Fields, Registers};
 use routes::Cpu;
 use routes::update::job::Job;
 use routes::work::Work;
@@ -135,23 +135,12 @@ fn registers_words(r: Registers) -> [u64; 16]
     ]
 }
 
-fn with_work(work: Option<Work>) -> Option<Cpu>
-    ensures { result ≡ cpu_by work }
-{
-    match work {
-        Some(work) => Some(Cpu { work }),
-        None => None,
-    }
-}
-
 // A processor whose registers were saved in these words; none if they were not.
 pub fn restore(words: &[u64]) -> Option<Cpu>
     ensures { result ≡ cpu_of words.now }
 {
-    match read_registers(words) {
-        Some(r) => with_work(work_of(r)),
-        None => None,
-    }
+    let work = Work::try_from(read_registers(words)?).ok()?;
+    Some(Cpu { work })
 }
 
 // So that it can be restored.
@@ -159,5 +148,5 @@ pub fn save(cpu: Cpu, words: &mut [u64])
     requires { length words.old ≡ 16 }
     ensures { cpu_of words.new ≡ Some' cpu }
 {
-    words.copy_from_slice(&registers_words(registers_of(cpu.work)));
+    words.copy_from_slice(&registers_words(cpu.work.into()));
 }

@@ -4,8 +4,7 @@ ghost use Rattle.routes.specs.Machine.Acts.{MayDo};
 ghost use Rattle.routes.specs.Machine.Cpus.{Ready};
 ghost use Rattle.guard.specs.Steps.{GuardedStep};
 
-use crate::asking::asks;
-use crate::ok::work_ok;
+use port::{asks, work_ok};
 use routes::act::Act;
 use routes::{Answer, Cpu, Memory};
 

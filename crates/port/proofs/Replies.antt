@@ -1,5 +1,5 @@
 -- A turn on a memory that replies one number: it may be taken, and the reply is that number.
-use Rattle.std.proofs.Common.{◌≡◌, ℕ, zero, suc, ◌+◌, ◌<◌, ◌≤◌, true, eqb, List, Option, refl, ap, ◌∙◌, subst, arith}
+use Rattle.std.proofs.Common.{◌≡◌, ℕ, zero, suc, ◌<◌, ◌≤◌, List, Option, refl, ap, ◌∙◌, subst, arith}
 use Rattle.std.proofs.lemmas.Bool.{eq-eqb}
 use Rattle.std.proofs.lemmas.Bool.Decides.{nat_tests}
 use Rattle.routes.specs.declared.Answer.{Answer}
@@ -9,7 +9,7 @@ use Rattle.routes.specs.declared.act.Act.TheVariants.{Load, Store, Fence, Swap, 
 use Rattle.routes.specs.Memory.{Mem, Obtains, got, out, last_late, arrived, none_to}
 use Rattle.routes.specs.Machine.Acts.{MayDo, Did, got_of}
 use Rattle.routes.specs.Machine.Cpus.{Ready, Stepped, act, work_after, words_after, told_after}
-use Rattle.port.specs.declared.reply.OneReply.{OneReply}
+use Rattle.port.specs.declared.reply.one.OneReply.{OneReply}
 use Rattle.port.specs.Replies.{InMemory, ReplyFits, free_for, reply_to, waiting, mem_of}
 use Rattle.port.specs.Turns.{Asks, Replied}
 
@@ -25,10 +25,11 @@ may_ask (Release b) p cpus x h i = (omega arith, refl, h, i.0, i.1, grind (arith
 may_ask Pause p cpus x h i = tt
 
 -- The block that is handed out is the free one.
-obtained : (p cpus x y : ℕ) (n : Mem) → x ≤ 1048576 → Obtains (waiting cpus p x x) (got_of y) n → y ≡ x
+obtained : (p cpus x y : ℕ) (n : Mem) → x ≤ 1048576 → Obtains (waiting cpus p x (got_of x)) (got_of y) n → y ≡ x
 obtained p cpus zero zero n fits o = refl
-obtained p cpus (suc x) zero n fits (out _ all _) = let same : eqb (x + 1) (suc x) ≡ true = eq-eqb (x + 1) (suc x) (omega arith) in absurd (rw same at (all x (omega arith)))
-obtained p cpus x (suc y) n fits (got _ v _ lt free _ _ _) = grind (arith, nat_tests)
+obtained p cpus zero (suc y) n fits (got _ v _ lt free _ _ _) = grind (arith, nat_tests)
+obtained p cpus (suc x) zero n fits (out _ all _) = let same = eq-eqb x x refl in absurd (rw same at (all x (omega arith)))
+obtained p cpus (suc x) (suc y) n fits (got _ v _ lt free _ _ _) = grind (arith, nat_tests)
 
 -- The reply is the given one.
 reply_is : (a : Act) (p cpus x y : ℕ) (n : Mem) → ReplyFits a x → Did p a (waiting cpus p x (free_for a x)) y n → y ≡ reply_to a x

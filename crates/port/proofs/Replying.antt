@@ -1,11 +1,12 @@
 -- A memory that replies one number: what it does when it is asked.
-use Rattle.std.proofs.Common.{◌≡◌, ℕ, ◌+◌, ◌-◌, ◌<◌, ◌≤◌, Bool, true, false, cond, eqb, Some, None, sym, refl, ap, ◌∙◌, subst, arith}
+use Rattle.std.proofs.Common.{◌≡◌, ℕ, ◌<◌, Bool, true, false, cond, eqb, Some, None, Option, sym, refl, ap, ◌∙◌, subst, arith}
 use Rattle.std.proofs.lemmas.Bool.Decides.{nat_tests}
+use Rattle.std.specs.Option.{ForSome}
+use Rattle.routes.specs.declared.act.Act.{Act}
+use Rattle.routes.specs.declared.act.Act.TheVariants.{Load, Store, Fence, Swap, Obtain, Release, Pause}
 use Rattle.routes.specs.Memory.{Mem, Arrives, rest, Obtains, got, out, counted, sees, fenced, swapped, last_late, arrived}
-use Rattle.port.specs.declared.reply.OneReply.{OneReply}
-use Rattle.port.specs.declared.reply.Outcome.{Outcome}
-use Rattle.port.specs.declared.reply.Outcome.TheVariants.{NotAsked, Unchanged, Stored, Fenced, Swapped, Obtained, Released}
-use Rattle.port.specs.Replies.{waiting, outcome, obtained, mem_of}
+use Rattle.port.specs.declared.reply.one.OneReply.{OneReply}
+use Rattle.port.specs.Replies.{waiting, done as done_to, obtained, after, mem_of}
 
 -- as it was before it was asked
 abbrev pub before : OneReply → Mem
@@ -15,21 +16,29 @@ cond_left : (b : Bool) (m n : Mem) → m.left ≡ 1 → n.left ≡ 1 → (cond b
 cond_left true m n p q = p
 cond_left false m n p q = q
 
+obtained_left : (free : Option ℕ) (m : Mem) → m.left ≡ 1 → (obtained free m).left ≡ 1
+obtained_left None m p = p
+obtained_left (Some b) m p = p
+
 -- Once it was asked, it may not be asked again.
-left_over : (o : Outcome) (p : ℕ) (m : Mem) → m.left ≡ 1 → 0 < (outcome o p m).left → outcome o p m ≡ m
-left_over NotAsked p m one h = refl
-left_over Unchanged p m one h = absurd (omega arith)
-left_over (Stored b w x) p m one h = absurd (omega arith)
-left_over Fenced p m one h = absurd (omega arith)
-left_over (Swapped b w old new) p m one h =
+left_over : (a : Act) (p : ℕ) (free : Option ℕ) (m : Mem) → m.left ≡ 1 → 0 < (done_to a p free m).left → done_to a p free m ≡ m
+left_over (Load b w) p free m one h = absurd (omega arith)
+left_over (Store b w x) p free m one h = absurd (omega arith)
+left_over Fence p free m one h = absurd (omega arith)
+left_over (Swap b w old new) p free m one h =
     let same : (swapped p b w old new m).left ≡ 1 = cond_left (eqb ((fenced p m).val b w) old) _ _ one one in
     absurd (omega arith)
-left_over (Obtained b) p m one h = absurd (omega arith)
-left_over (Released b) p m one h = absurd (omega arith)
+left_over Obtain p free m one h = let same : (obtained free m).left ≡ 1 = obtained_left free m one in absurd (omega arith)
+left_over (Release b) p free m one h = absurd (omega arith)
+left_over Pause p free m one h = refl
+
+after_left : (asked : Option Act) (p : ℕ) (free : Option ℕ) (m : Mem) → m.left ≡ 1 → 0 < (after asked p free m).left → after asked p free m ≡ m
+after_left None p free m one h = refl
+after_left (Some a) p free m one h = left_over a p free m one h
 
 -- While it may be asked, it is as it was.
 pub unasked : (r : OneReply) → 0 < (mem_of r).left → mem_of r ≡ before r
-unasked r h = left_over r.outcome r.who (before r) refl h
+unasked r h = after_left r.asked r.who r.free (before r) refl h
 
 arrives_same : {m n : Mem} → m ≡ n → Arrives m n
 arrives_same {m = m} e = subst (λ k. Arrives m k) e (rest m)
@@ -50,16 +59,14 @@ pub swaps : (r : OneReply) (p b w : ℕ) → 0 < (mem_of r).left → r.value ≡
 unfolding arrived
 swaps r p b w h = ap (λ m. (fenced p m).val b w) (sym (unasked r h))
 
--- No block is free.
-pub obtains_none : (r : OneReply) → 0 < (mem_of r).left → ((b : ℕ) → b < 1048576 → b + 1 ≡ r.free → ⊥) → Obtains (mem_of r) None (counted (before r))
-obtains_none r h none =
-    subst (λ m. Obtains m None (counted (before r))) (sym (unasked r h))
-    (out (counted (before r)) (λ b lt. let other : b + 1 ≡ r.free → ⊥ = none b lt in grind (arith, nat_tests)) (rest _))
+-- The free block is got, or none where none is.
+obtains_free : (cpus who value : ℕ) (free : Option ℕ) → ForSome free (λ b. b < 1048576) →
+    Obtains (waiting cpus who value free) free (counted (obtained free (waiting cpus who value free)))
+obtains_free cpus who value None small = out _ (λ b lt. tt) (rest _)
+obtains_free cpus who value (Some b) small =
+    let m = waiting cpus who value (Some b) in
+    got b (obtained (Some b) m).val (counted (obtained (Some b) m)) (small b refl) (grind (arith, nat_tests)) (λ c w ne. grind (arith, nat_tests)) (λ w. grind (arith, nat_tests)) (rest _)
 
--- The free one is got.
-pub obtains_some : (r : OneReply) → 0 < (mem_of r).left → 0 < r.free → r.free ≤ 1048576 → Obtains (mem_of r) (Some (r.free - 1)) (counted (obtained (r.free - 1) (before r)))
-obtains_some r h some small =
-    let b = r.free - 1 in
-    let n = counted (obtained b (before r)) in
-    subst (λ m. Obtains m (Some b) n) (sym (unasked r h))
-    (got b (obtained b (before r)).val n (omega arith) (grind (arith, nat_tests)) (λ c w ne. grind (arith, nat_tests)) (λ w. grind (arith, nat_tests)) (rest _))
+pub obtains : (r : OneReply) → 0 < (mem_of r).left → Obtains (mem_of r) r.free (counted (obtained r.free (before r)))
+obtains r h =
+    subst (λ m. Obtains m r.free (counted (obtained r.free (before r)))) (sym (unasked r h)) (obtains_free r.cpus r.who r.value r.free r.in_memory)

@@ -1,6 +1,6 @@
 -- Registers in 16 words.
 -- Assumes nothing.
-use Rattle.std.specs.Prelude.{ℕ, zero, suc, ◌/◌, ◌%◌, Bool, true, cond, ◌&&◌, List, length, Some, None, Option, ◌==◌, nat_le, slice_index}
+use Rattle.std.specs.Prelude.{ℕ, zero, suc, ◌/◌, ◌%◌, Bool, true, cond, ◌&&◌, List, length, Some, None, Option, ◌==◌, nat_le, slice_index, option_map, option_and_then}
 use Rattle.routes.specs.declared.Cpu.{Cpu}
 use Rattle.routes.specs.declared.update.job.Job.{Job}
 use Rattle.routes.specs.declared.work.Work.{Work}
@@ -47,14 +47,9 @@ registers_in o = record { phase = low (slice_index o 0); job = job_in o; fields 
 abbrev pub registers_of : List ℕ → Option Registers
 registers_of o = cond (length o == 16 && narrow o 16) (Some (registers_in o)) None
 
-abbrev pub cpu_by : Option Work → Option Cpu
-cpu_by None = None
-cpu_by (Some k) = Some (record { work = k })
-
-abbrev pub cpu_from : Option Registers → Option Cpu
-cpu_from None = None
-cpu_from (Some r) = cpu_by (work_of r)
+abbrev pub with_work : Work → Cpu
+with_work k = record { work = k }
 
 -- the processor that was saved in the words, if they are such
 abbrev pub cpu_of : List ℕ → Option Cpu
-cpu_of o = cpu_from (registers_of o)
+cpu_of o = option_map with_work (option_and_then work_of (registers_of o))

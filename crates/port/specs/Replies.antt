@@ -1,12 +1,11 @@
 -- A memory that is asked one thing and replies a given number.
 -- Assumes nothing.
-use Rattle.std.specs.Prelude.{ℕ, ◌+◌, ◌<◌, ◌≤◌, true, cond, not, [], ◌==◌}
+use Rattle.std.specs.Prelude.{ℕ, ◌<◌, ◌≤◌, Bool, true, false, cond, not, [], Some, None, Option, ◌==◌}
 use Rattle.routes.specs.declared.act.Act.{Act}
 use Rattle.routes.specs.declared.act.Act.TheVariants.{Load, Store, Fence, Swap, Obtain, Release, Pause}
 use Rattle.routes.specs.Memory.{Mem, set_at, with', counted, stored, fenced, swapped, released}
-use Rattle.port.specs.declared.reply.OneReply.{OneReply}
-use Rattle.port.specs.declared.reply.Outcome.{Outcome}
-use Rattle.port.specs.declared.reply.Outcome.TheVariants.{NotAsked, Unchanged, Stored, Fenced, Swapped, Obtained, Released}
+use Rattle.routes.specs.Machine.Acts.{got_of}
+use Rattle.port.specs.declared.reply.one.OneReply.{OneReply}
 
 -- where nothing is handed back, the reply is 0
 abbrev pub reply_to : Act → ℕ → ℕ
@@ -38,33 +37,42 @@ ReplyFits Obtain x = x ≤ 1048576
 ReplyFits (Release b) x = Unit {0}
 ReplyFits Pause x = Unit {0}
 
--- which block is free, and 1: that one which the reply hands out
-abbrev pub free_for : Act → ℕ → ℕ
-free_for (Load b w) x = 0
-free_for (Store b w y) x = 0
-free_for Fence x = 0
-free_for (Swap b w old new) x = 0
-free_for Obtain x = x
-free_for (Release b) x = 0
-free_for Pause x = 0
+-- which block is free: that one which the reply hands out
+abbrev pub free_for : Act → ℕ → Option ℕ
+free_for (Load b w) x = None
+free_for (Store b w y) x = None
+free_for Fence x = None
+free_for (Swap b w old new) x = None
+free_for Obtain x = got_of x
+free_for (Release b) x = None
+free_for Pause x = None
+
+abbrev pub is_free : Option ℕ → ℕ → Bool
+is_free None b = false
+is_free (Some free) b = b == free
 
 -- before it is asked: each word holds the value, and each block is held but the free one
-abbrev pub waiting : ℕ → ℕ → ℕ → ℕ → Mem
-waiting cpus who value free = record { cpus = cpus; blocks = 1048576; val = λ b w. value; held = λ b. not (b + 1 == free); late = λ q. []; left = 1; who = who }
+abbrev pub waiting : ℕ → ℕ → ℕ → Option ℕ → Mem
+waiting cpus who value free = record { cpus = cpus; blocks = 1048576; val = λ b w. value; held = λ b. not (is_free free b); late = λ q. []; left = 1; who = who }
 
--- a block is got, and it holds noughts
-abbrev pub obtained : ℕ → Mem → Mem
-obtained b m = with' (λ c w. cond (c == b) 0 (m.val c w)) (set_at b true m.held) m.late m
+-- a block is got, if there is one, and it holds noughts
+abbrev pub obtained : Option ℕ → Mem → Mem
+obtained None m = m
+obtained (Some b) m = with' (λ c w. cond (c == b) 0 (m.val c w)) (set_at b true m.held) m.late m
 
--- what it was asked has been done
-abbrev pub outcome : Outcome → ℕ → Mem → Mem
-outcome NotAsked p m = m
-outcome Unchanged p m = counted m
-outcome (Stored b w x) p m = counted (stored p b w x m)
-outcome Fenced p m = counted (fenced p m)
-outcome (Swapped b w old new) p m = counted (swapped p b w old new m)
-outcome (Obtained b) p m = counted (obtained b m)
-outcome (Released b) p m = counted (released b m)
+-- what processor p asked has been done
+abbrev pub done : Act → ℕ → Option ℕ → Mem → Mem
+done (Load b w) p free m = counted m
+done (Store b w x) p free m = counted (stored p b w x m)
+done Fence p free m = counted (fenced p m)
+done (Swap b w old new) p free m = counted (swapped p b w old new m)
+done Obtain p free m = counted (obtained free m)
+done (Release b) p free m = counted (released b m)
+done Pause p free m = m
+
+abbrev pub after : Option Act → ℕ → Option ℕ → Mem → Mem
+after None p free m = m
+after (Some a) p free m = done a p free m
 
 abbrev pub mem_of : OneReply → Mem
-mem_of r = outcome r.outcome r.who (waiting r.cpus r.who r.value r.free)
+mem_of r = after r.asked r.who r.free (waiting r.cpus r.who r.value r.free)

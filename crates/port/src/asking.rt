@@ -47,28 +47,24 @@ fn lookup_asks(p: u32, l: Lookup) -> Act
     ensures { result ≡ lookup_act p l }
 {
     match l {
-        Lookup::Epoch { address: _ } => Act::Load { block: 0, word: 2 },
-        Lookup::Announce { address: _, epoch } => Act::Swap {
+        Lookup::Epoch { .. } => Act::Load { block: 0, word: 2 },
+        Lookup::Announce { epoch, .. } => Act::Swap {
             block: 0,
             word: 16 + p,
             old: 0,
             new: epoch + 1,
         },
-        Lookup::Root {
-            address: _,
-            epoch: _,
-        } => Act::Load { block: 0, word: 1 },
+        Lookup::Root { .. } => Act::Load { block: 0, word: 1 },
         Lookup::Node {
             address,
-            epoch: _,
             level,
             node,
-            best: _,
+            ..
         } => Act::Load {
             block: node,
             word: nib(level, address),
         },
-        Lookup::Leave { epoch, best: _ } => Act::Swap {
+        Lookup::Leave { epoch, .. } => Act::Swap {
             block: 0,
             word: 16 + p,
             old: epoch + 1,
@@ -82,8 +78,8 @@ fn check_asks(p: u32, job: Job, s: Check, own: &[u64]) -> Act
     ensures { result ≡ check_act p s own.now }
 {
     match s {
-        Check::Piece { k: _ } => Act::Pause,
-        Check::Root { k: _ } => Act::Load { block: 0, word: 1 },
+        Check::Piece { .. } => Act::Pause,
+        Check::Root { .. } => Act::Load { block: 0, word: 1 },
         Check::Slot { k, level, node } => Act::Load {
             block: node,
             word: nib(level, prefix_at(own, k).bits),
@@ -95,7 +91,7 @@ fn check_asks(p: u32, job: Job, s: Check, own: &[u64]) -> Act
                 word: 16 + route_place(prefix.len, prefix.bits),
             }
         }
-        Check::Reject { why: _ } => unlock(p),
+        Check::Reject { .. } => unlock(p),
     }
 }
 
@@ -121,15 +117,11 @@ fn recycle_asks(s: Recycle) -> Act
             block: node,
             word: 31,
         },
-        Recycle::Next { node, grace: _ } => Act::Load {
+        Recycle::Next { node, .. } => Act::Load {
             block: node,
             word: 32,
         },
-        Recycle::SetHead {
-            node: _,
-            next,
-            grace: _,
-        } => Act::Store {
+        Recycle::SetHead { next, .. } => Act::Store {
             block: 0,
             word: 3,
             x: next as u64,
@@ -147,15 +139,7 @@ fn scan_asks(s: Scan) -> Act
     ensures { result ≡ scan_act s }
 {
     match s {
-        Scan::ForNode {
-            q,
-            node: _,
-            stamp: _,
-        } => Act::Load {
-            block: 0,
-            word: 16 + q,
-        },
-        Scan::ForLimit { q, limit: _ } => Act::Load {
+        Scan::ForNode { q, .. } | Scan::ForLimit { q, .. } => Act::Load {
             block: 0,
             word: 16 + q,
         },
@@ -168,18 +152,13 @@ fn build_asks(job: Job, s: Build, own: &[u64]) -> Act
 {
     match s {
         Build::Root => Act::Load { block: 0, word: 1 },
-        Build::Read {
-            k: _,
-            level: _,
-            word,
-            node,
-        } => Act::Load { block: node, word },
-        Build::Edit { k: _, have: _ } => Act::Pause,
+        Build::Read { word, node, .. } => Act::Load { block: node, word },
+        Build::Edit { .. } => Act::Pause,
         Build::Write {
-            k: _,
             first,
             level,
             word,
+            ..
         } => {
             Act::Store {
                 block: fresh_at(own, first + level as u32),
@@ -194,13 +173,12 @@ fn publish_asks(job: Job, s: Publish) -> Act
     ensures { result ≡ publish_act job s }
 {
     match s {
-        Publish::FenceNodes => Act::Fence,
+        Publish::FenceNodes | Publish::FenceRoot => Act::Fence,
         Publish::SetRoot => Act::Store {
             block: 0,
             word: 1,
             x: job.root as u64,
         },
-        Publish::FenceRoot => Act::Fence,
     }
 }
 
@@ -220,7 +198,7 @@ fn retire_asks(job: Job, s: Retire, own: &[u64]) -> Act
             word: 31,
             x: epoch,
         },
-        Retire::SetNext { i, epoch: _ } => Act::Store {
+        Retire::SetNext { i, .. } => Act::Store {
             block: retired_at(own, i),
             word: 32,
             x: follower(job, i, own) as u64,
@@ -249,47 +227,26 @@ fn reclaim_asks(s: Reclaim) -> Act
     ensures { result ≡ reclaim_act s }
 {
     match s {
-        Reclaim::Head { grace: _, left: _ } => Act::Load { block: 0, word: 3 },
-        Reclaim::RetiredAt {
-            grace: _,
-            left: _,
-            node,
-        } => Act::Load {
+        Reclaim::Head { .. } => Act::Load { block: 0, word: 3 },
+        Reclaim::RetiredAt { node, .. } => Act::Load {
             block: node,
             word: 31,
         },
-        Reclaim::Next {
-            grace: _,
-            left: _,
-            node,
-        } => Act::Load {
+        Reclaim::Next { node, .. } => Act::Load {
             block: node,
             word: 32,
         },
-        Reclaim::SetHead {
-            grace: _,
-            left: _,
-            node: _,
-            next,
-        } => Act::Store {
+        Reclaim::SetHead { next, .. } => Act::Store {
             block: 0,
             word: 3,
             x: next as u64,
         },
-        Reclaim::SetTail {
-            grace: _,
-            left: _,
-            node: _,
-        } => Act::Store {
+        Reclaim::SetTail { .. } => Act::Store {
             block: 0,
             word: 4,
             x: 0,
         },
-        Reclaim::Release {
-            grace: _,
-            left: _,
-            node,
-        } => Act::Release { block: node },
+        Reclaim::Release { node, .. } => Act::Release { block: node },
     }
 }
 

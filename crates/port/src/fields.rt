@@ -1,4 +1,5 @@
-// What a processor has under way as plain numbers: a code for its state and a field for each part. Each phase has a pair of functions, there and back.
+// What a processor has under way as plain numbers: a code for its state and a field for each part. Each phase is converted there and back.
+// The codes are matched as numbers: they stand in words that C programs keep, and no enum of the repository has them in this order.
 mod answer;
 mod build;
 mod check;
@@ -9,7 +10,10 @@ mod retire;
 mod work;
 
 use routes::update::job::Job;
-pub use work::{registers_of, work_of};
+
+// Numbers that nothing under way has.
+#[derive(Clone, Copy)]
+pub struct UnknownState;
 
 // An answer: found is 1, nothing 2, done 3, full 4, no 5 (with its number as the length).
 #[derive(Clone, Copy)]

@@ -19,23 +19,11 @@ fn lookup_name(l: Lookup) -> &'static str
     ensures { result.now ≡ lookup_name l }
 {
     match l {
-        Lookup::Epoch { address: _ } => "lookup epoch",
-        Lookup::Announce {
-            address: _,
-            epoch: _,
-        } => "lookup announce",
-        Lookup::Root {
-            address: _,
-            epoch: _,
-        } => "lookup root",
-        Lookup::Node {
-            address: _,
-            epoch: _,
-            level: _,
-            node: _,
-            best: _,
-        } => "lookup node",
-        Lookup::Leave { epoch: _, best: _ } => "lookup leave",
+        Lookup::Epoch { .. } => "lookup epoch",
+        Lookup::Announce { .. } => "lookup announce",
+        Lookup::Root { .. } => "lookup root",
+        Lookup::Node { .. } => "lookup node",
+        Lookup::Leave { .. } => "lookup leave",
     }
 }
 
@@ -43,15 +31,11 @@ fn check_name(s: Check) -> &'static str
     ensures { result.now ≡ check_name s }
 {
     match s {
-        Check::Piece { k: _ } => "check piece",
-        Check::Root { k: _ } => "check root",
-        Check::Slot {
-            k: _,
-            level: _,
-            node: _,
-        } => "check slot",
-        Check::Route { k: _, node: _ } => "check route",
-        Check::Reject { why: _ } => "reject",
+        Check::Piece { .. } => "check piece",
+        Check::Root { .. } => "check root",
+        Check::Slot { .. } => "check slot",
+        Check::Route { .. } => "check route",
+        Check::Reject { .. } => "reject",
     }
 }
 
@@ -70,13 +54,9 @@ fn recycle_name(s: Recycle) -> &'static str
 {
     match s {
         Recycle::Head => "recycle head",
-        Recycle::RetiredAt { node: _ } => "recycle stamp",
-        Recycle::Next { node: _, grace: _ } => "recycle next",
-        Recycle::SetHead {
-            node: _,
-            next: _,
-            grace: _,
-        } => "recycle set head",
+        Recycle::RetiredAt { .. } => "recycle stamp",
+        Recycle::Next { .. } => "recycle next",
+        Recycle::SetHead { .. } => "recycle set head",
         Recycle::SetTail => "recycle set tail",
     }
 }
@@ -85,12 +65,8 @@ fn scan_name(s: Scan) -> &'static str
     ensures { result.now ≡ scan_name s }
 {
     match s {
-        Scan::ForNode {
-            q: _,
-            node: _,
-            stamp: _,
-        } => "scan for node",
-        Scan::ForLimit { q: _, limit: _ } => "scan for limit",
+        Scan::ForNode { .. } => "scan for node",
+        Scan::ForLimit { .. } => "scan for limit",
     }
 }
 
@@ -99,19 +75,9 @@ fn build_name(s: Build) -> &'static str
 {
     match s {
         Build::Root => "build root",
-        Build::Read {
-            k: _,
-            level: _,
-            word: _,
-            node: _,
-        } => "build read",
-        Build::Edit { k: _, have: _ } => "build edit",
-        Build::Write {
-            k: _,
-            first: _,
-            level: _,
-            word: _,
-        } => "build write",
+        Build::Read { .. } => "build read",
+        Build::Edit { .. } => "build edit",
+        Build::Write { .. } => "build write",
     }
 }
 
@@ -130,12 +96,12 @@ fn retire_name(s: Retire) -> &'static str
 {
     match s {
         Retire::Epoch => "retire epoch",
-        Retire::SetEpoch { epoch: _ } => "retire set epoch",
-        Retire::SetAt { i: _, epoch: _ } => "retire stamp",
-        Retire::SetNext { i: _, epoch: _ } => "retire set next",
+        Retire::SetEpoch { .. } => "retire set epoch",
+        Retire::SetAt { .. } => "retire stamp",
+        Retire::SetNext { .. } => "retire set next",
         Retire::Tail => "retire tail",
         Retire::SetHead => "retire set head",
-        Retire::Link { tail: _ } => "retire link",
+        Retire::Link { .. } => "retire link",
         Retire::SetTail => "retire set tail",
         Retire::Fence => "retire fence",
     }
@@ -145,33 +111,12 @@ fn reclaim_name(s: Reclaim) -> &'static str
     ensures { result.now ≡ reclaim_name s }
 {
     match s {
-        Reclaim::Head { grace: _, left: _ } => "reclaim head",
-        Reclaim::RetiredAt {
-            grace: _,
-            left: _,
-            node: _,
-        } => "reclaim stamp",
-        Reclaim::Next {
-            grace: _,
-            left: _,
-            node: _,
-        } => "reclaim next",
-        Reclaim::SetHead {
-            grace: _,
-            left: _,
-            node: _,
-            next: _,
-        } => "reclaim set head",
-        Reclaim::SetTail {
-            grace: _,
-            left: _,
-            node: _,
-        } => "reclaim set tail",
-        Reclaim::Release {
-            grace: _,
-            left: _,
-            node: _,
-        } => "reclaim release",
+        Reclaim::Head { .. } => "reclaim head",
+        Reclaim::RetiredAt { .. } => "reclaim stamp",
+        Reclaim::Next { .. } => "reclaim next",
+        Reclaim::SetHead { .. } => "reclaim set head",
+        Reclaim::SetTail { .. } => "reclaim set tail",
+        Reclaim::Release { .. } => "reclaim release",
     }
 }
 

@@ -30,17 +30,10 @@ fn lookup_ok(l: Lookup) -> bool
     ensures exact { LookupOk l → T result }
 {
     match l {
-        Lookup::Epoch { address: _ } => true,
-        Lookup::Announce { address: _, epoch } => epoch < u64::MAX,
-        Lookup::Root { address: _, epoch } => epoch < u64::MAX,
-        Lookup::Node {
-            address: _,
-            epoch,
-            level,
-            node: _,
-            best: _,
-        } => epoch < u64::MAX && level <= 8,
-        Lookup::Leave { epoch, best: _ } => epoch < u64::MAX,
+        Lookup::Epoch { .. } => true,
+        Lookup::Announce { epoch, .. } | Lookup::Root { epoch, .. } | Lookup::Leave { epoch, .. } =>
+            epoch < u64::MAX,
+        Lookup::Node { epoch, level, .. } => epoch < u64::MAX && level <= 8,
     }
 }
 
@@ -72,15 +65,11 @@ fn check_ok(job: Job, s: Check, own: &[u64]) -> bool
 {
     match s {
         Check::Piece { k } => at_piece(job, k),
-        Check::Root { k } => at_piece(job, k) && clean_in(own, k),
-        Check::Slot { k, level, node: _ } => {
-            if !at_piece(job, k) || !clean_in(own, k) {
-                return false;
-            }
-            (level as u64) < piece_at(own, k).len / 4
+        Check::Root { k } | Check::Route { k, .. } => at_piece(job, k) && clean_in(own, k),
+        Check::Slot { k, level, .. } => {
+            at_piece(job, k) && clean_in(own, k) && (level as u64) < piece_at(own, k).len / 4
         }
-        Check::Route { k, node: _ } => at_piece(job, k) && clean_in(own, k),
-        Check::Reject { why: _ } => true,
+        Check::Reject { .. } => true,
     }
 }
 
@@ -100,15 +89,8 @@ fn recycle_ok(job: Job, s: Recycle) -> bool
     ensures exact { RecycleOk job s → T result }
 {
     match s {
-        Recycle::SetHead {
-            node: _,
-            next: _,
-            grace: _,
-        } => job.got < job.need && job.need <= 72,
-        Recycle::Head => true,
-        Recycle::RetiredAt { node: _ } => true,
-        Recycle::Next { node: _, grace: _ } => true,
-        Recycle::SetTail => true,
+        Recycle::SetHead { .. } => job.got < job.need && job.need <= 72,
+        Recycle::Head | Recycle::RetiredAt { .. } | Recycle::Next { .. } | Recycle::SetTail => true,
     }
 }
 
@@ -117,8 +99,8 @@ fn scan_ok(s: Scan) -> bool
     ensures exact { ScanOk s → T result }
 {
     match s {
-        Scan::ForNode { q, node: _, stamp } => q < 16 && stamp < u64::MAX,
-        Scan::ForLimit { q, limit: _ } => q < 16,
+        Scan::ForNode { q, stamp, .. } => q < 16 && stamp < u64::MAX,
+        Scan::ForLimit { q, .. } => q < 16,
     }
 }
 
@@ -138,16 +120,11 @@ fn build_ok(job: Job, s: Build, own: &[u64]) -> bool
 {
     match s {
         Build::Root => true,
-        Build::Read {
-            k,
-            level,
-            word,
-            node: _,
-        } => {
-            if !building(job, k, own) {
-                return false;
-            }
-            (level as u64) <= piece_at(own, k).len / 4 && word < 31 && job.retired <= 72
+        Build::Read { k, level, word, .. } => {
+            building(job, k, own)
+                && (level as u64) <= piece_at(own, k).len / 4
+                && word < 31
+                && job.retired <= 72
         }
         Build::Edit { k, have } => {
             if !building(job, k, own) {
@@ -177,15 +154,11 @@ fn retire_ok(job: Job, s: Retire) -> bool
     ensures exact { RetireOk job s → T result }
 {
     match s {
-        Retire::Epoch => true,
         Retire::SetEpoch { epoch } => epoch < u64::MAX,
-        Retire::SetAt { i, epoch: _ } => i < 72,
-        Retire::SetNext { i, epoch: _ } => i < 72,
-        Retire::Tail => true,
-        Retire::SetHead => true,
-        Retire::Link { tail: _ } => true,
+        Retire::SetAt { i, .. } | Retire::SetNext { i, .. } => i < 72,
         Retire::SetTail => 0 < job.retired && job.retired <= 72,
-        Retire::Fence => true,
+        Retire::Epoch | Retire::Tail | Retire::SetHead | Retire::Link { .. } | Retire::Fence =>
+            true,
     }
 }
 
@@ -205,16 +178,13 @@ fn update_ok(job: Job, phase: Phase, own: &[u64]) -> bool
     ensures exact { UpdateOk job phase own.now → T result }
 {
     match phase {
-        Phase::Refuse => true,
-        Phase::Lock => true,
+        Phase::Refuse | Phase::Lock | Phase::Publish(_) | Phase::Reclaim(_) => true,
         Phase::Check(s) => check_ok(job, s, own),
         Phase::Obtain(s) => obtain_ok(job, s),
         Phase::Recycle(s) => recycle_ok(job, s),
         Phase::Scan(s) => scan_ok(s),
         Phase::Build(s) => build_ok(job, s, own),
-        Phase::Publish(_) => true,
         Phase::Retire(s) => retire_ok(job, s),
-        Phase::Reclaim(_) => true,
         Phase::Finish(s) => finish_ok(job, s),
     }
 }

@@ -1,13 +1,16 @@
 // Registers as 16 words, to be kept outside and taken up again.
-ghost use Rattle.std.specs.Prelude.{◌≡◌, ◌%◌, ◌<◌, length, Some as Some'};
-ghost use Rattle.port.specs.Registers.{most_at, narrow as narrow_of, best_in, job_in, fields_in, registers_in, registers_of, cpu_of, cpu_by};
+ghost use Rattle.std.specs.Prelude.{◌≡◌, ◌%◌, ◌<◌, ◌≤◌, ◌↔◌, length, Some as Some', IsTrue, EachIndex, slice_index};
+ghost use Rattle.std.specs.Result.{result_ok};
+ghost use Rattle.port.specs.Registers.{most_at, best_in, job_in, fields_in, registers_in, registers_of, cpu_of};
 
-use crate::fields::{AnswerWords, Fields, Registers, registers_of, work_of};
+use crate::fields::{AnswerWords, Fields, Registers, UnknownState};
 use routes::Cpu;
 use routes::update::job::Job;
 use routes::work::Work;
 
 pub const REGISTER_WORDS: usize = 16;
+
+pub type RegisterWords = [u64; REGISTER_WORDS];
 
 // The most that a word can be: an epoch takes all of it, a level a byte, an answer six, the others four.
 fn most_at(i: usize) -> u64
@@ -22,15 +25,10 @@ fn most_at(i: usize) -> u64
 }
 
 // Is no word more than it can be?
-fn narrow(words: &[u64]) -> bool
-    requires { length words.now ≡ 16 }
-    ensures { result ≡ narrow_of words.now 16 }
+fn narrow(words: &RegisterWords) -> bool
+    ensures { IsTrue result ↔ EachIndex words.now (λ i. slice_index words.now i ≤ most_at i) }
 {
-    let mut all = true;
-    for i in 0..16 {
-        all = all & (words[i] <= most_at(i));
-    }
-    all
+    words.iter().enumerate().all(|(i, x)| *x <= most_at(i))
 }
 
 fn low(x: u64) -> u32
@@ -63,8 +61,7 @@ fn best_word(best: AnswerWords) -> u64
     best.tells as u64 + 0x1_0000_0000 * best.len as u64 + 0x100_0000_0000 * best.kind as u64
 }
 
-fn job_in(words: &[u64]) -> Job
-    requires { length words.now ≡ 16 }
+fn job_in(words: &RegisterWords) -> Job
     ensures { result ≡ job_in words.now }
 {
     Job {
@@ -77,8 +74,7 @@ fn job_in(words: &[u64]) -> Job
     }
 }
 
-fn fields_in(words: &[u64]) -> Fields
-    requires { length words.now ≡ 16 }
+fn fields_in(words: &RegisterWords) -> Fields
     ensures { result ≡ fields_in words.now }
 {
     Fields {
@@ -94,53 +90,47 @@ fn fields_in(words: &[u64]) -> Fields
     }
 }
 
-// The registers in 16 words, if each is one that can be.
-fn read_registers(words: &[u64]) -> Option<Registers>
-    ensures { result ≡ registers_of words.now }
-{
-    if words.len() != REGISTER_WORDS {
-        return None;
+// The registers in the words, if each is one that can be.
+impl TryFrom<&RegisterWords> for Registers {
+    type Error = UnknownState;
+
+    ghost try_from_gives = { λ o r. result_ok r ≡ registers_of o.now };
+
+    fn try_from(words: &RegisterWords) -> Result<Registers, UnknownState> {
+        if !narrow(words) {
+            return Err(UnknownState);
+        }
+        Ok(Registers {
+            phase: low(words[0]),
+            job: job_in(words),
+            fields: fields_in(words),
+        })
     }
-    if !narrow(words) {
-        return None;
-    }
-    Some(Registers {
-        phase: low(words[0]),
-        job: job_in(words),
-        fields: fields_in(words),
-    })
 }
 
 // Registers as the words that they are read from.
-fn registers_words(r: Registers) -> [u64; 16]
-    ensures { registers_of result ≡ Some' r }
-{
-    [
-        r.phase as u64,
-        r.fields.state as u64,
-        r.job.size as u64,
-        r.job.need as u64,
-        r.job.got as u64,
-        r.job.used as u64,
-        r.job.retired as u64,
-        r.job.root as u64,
-        r.fields.epoch,
-        r.fields.index as u64,
-        r.fields.node as u64,
-        r.fields.next as u64,
-        r.fields.level as u64,
-        r.fields.word as u64,
-        r.fields.first as u64,
-        best_word(r.fields.best),
-    ]
-}
+impl From<Registers> for RegisterWords {
+    ghost from_gives = { λ r o. registers_of o ≡ Some' r };
 
-fn with_work(work: Option<Work>) -> Option<Cpu>
-    ensures { result ≡ cpu_by work }
-{
-    match work {
-        Some(work) => Some(Cpu { work }),
-        None => None,
+    fn from(r: Registers) -> RegisterWords {
+        [
+            r.phase as u64,
+            r.fields.state as u64,
+            r.job.size as u64,
+            r.job.need as u64,
+            r.job.got as u64,
+            r.job.used as u64,
+            r.job.retired as u64,
+            r.job.root as u64,
+            r.fields.epoch,
+            r.fields.index as u64,
+            r.fields.node as u64,
+            r.fields.next as u64,
+            r.fields.level as u64,
+            r.fields.word as u64,
+            r.fields.first as u64,
+            best_word(r.fields.best),
+        ]
     }
 }
 
@@ -148,10 +138,10 @@ fn with_work(work: Option<Work>) -> Option<Cpu>
 pub fn restore(words: &[u64]) -> Option<Cpu>
     ensures { result ≡ cpu_of words.now }
 {
-    match read_registers(words) {
-        Some(r) => with_work(work_of(r)),
-        None => None,
-    }
+    let words: &RegisterWords = words.as_array()?;
+    let registers = Registers::try_from(words).ok()?;
+    let work = Work::try_from(registers).ok()?;
+    Some(Cpu { work })
 }
 
 // So that it can be restored.
@@ -159,5 +149,5 @@ pub fn save(cpu: Cpu, words: &mut [u64])
     requires { length words.old ≡ 16 }
     ensures { cpu_of words.new ≡ Some' cpu }
 {
-    words.copy_from_slice(&registers_words(registers_of(cpu.work)));
+    words.copy_from_slice(&RegisterWords::from(Registers::from(cpu.work)));
 }

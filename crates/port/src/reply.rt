@@ -1,47 +1,16 @@
 // A memory for one turn: it is asked one thing, and its reply is given beforehand.
 ghost use Rattle.std.specs.Prelude.{◌≡◌, ◌<◌, ◌≤◌, T, []};
+ghost use Rattle.std.specs.Option.{ForSome};
 ghost use Rattle.port.specs.Replies.{ReplyFits, free_for, mem_of, waiting};
 
+mod one;
+
+pub use one::OneReply;
 use routes::Memory;
 use routes::act::Act;
 
 // As many as a memory can have.
 pub const BLOCKS: u32 = 1_048_576;
-
-// What became of the memory in the turn.
-#[derive(Clone, Copy)]
-pub enum Outcome {
-    NotAsked,
-    Unchanged,
-    Stored {
-        block: u32,
-        word: u32,
-        x: u64,
-    },
-    Fenced,
-    Swapped {
-        block: u32,
-        word: u32,
-        old: u64,
-        new: u64,
-    },
-    Obtained {
-        block: u32,
-    },
-    Released {
-        block: u32,
-    },
-}
-
-// Each word holds the value, and each block is held but the one whose number and 1 is `free`.
-#[derive(Clone, Copy)]
-pub struct OneReply {
-    cpus: u32,
-    who: u32,
-    value: u64,
-    free: u32,
-    outcome: Outcome,
-}
 
 // Can the reply to this be so?
 pub fn reply_fits(asked: Act, reply: u64) -> bool
@@ -54,14 +23,15 @@ pub fn reply_fits(asked: Act, reply: u64) -> bool
     }
 }
 
-// The block and 1 that the reply hands out, if it does.
-fn free_for(asked: Act, reply: u64) -> u32
+// The block that the reply hands out, if it does: the reply is its number and 1.
+fn free_for(asked: Act, reply: u64) -> Option<u32>
     requires { ReplyFits asked reply }
-    ensures { result ≡ free_for asked reply }
+    ensures block { result ≡ free_for asked reply }
+    ensures in_memory { ForSome result (λ block. block < 1048576) }
 {
     match asked {
-        Act::Obtain => reply as u32,
-        _ => 0,
+        Act::Obtain => (reply as u32).checked_sub(1),
+        _ => None,
     }
 }
 
@@ -76,7 +46,7 @@ impl OneReply {
             who: p,
             value: reply,
             free: free_for(asked, reply),
-            outcome: Outcome::NotAsked,
+            asked: None,
         }
     }
 }
@@ -94,47 +64,35 @@ impl Memory for OneReply {
         BLOCKS
     }
 
-    fn load(&mut self, p: u32, block: u32, word: u32) -> u64 {
-        let (_p, _block, _word) = (p, block, word);
-        self.outcome = Outcome::Unchanged;
+    fn load(&mut self, _p: u32, block: u32, word: u32) -> u64 {
+        self.asked = Some(Act::Load { block, word });
         self.value
     }
 
-    fn store(&mut self, p: u32, block: u32, word: u32, x: u64) {
-        let _p = p;
-        self.outcome = Outcome::Stored { block, word, x };
+    fn store(&mut self, _p: u32, block: u32, word: u32, x: u64) {
+        self.asked = Some(Act::Store { block, word, x });
     }
 
-    fn fence(&mut self, p: u32) {
-        let _p = p;
-        self.outcome = Outcome::Fenced;
+    fn fence(&mut self, _p: u32) {
+        self.asked = Some(Act::Fence);
     }
 
-    fn swap(&mut self, p: u32, block: u32, word: u32, old: u64, new: u64) -> u64 {
-        let _p = p;
-        self.outcome = Outcome::Swapped {
+    fn swap(&mut self, _p: u32, block: u32, word: u32, old: u64, new: u64) -> u64 {
+        self.asked = Some(Act::Swap {
             block,
             word,
             old,
             new,
-        };
+        });
         self.value
     }
 
-    fn obtain(&mut self, p: u32) -> Option<u32> {
-        let _p = p;
-        let free = self.free;
-        if free == 0 || free > BLOCKS {
-            self.outcome = Outcome::Unchanged;
-            None
-        } else {
-            self.outcome = Outcome::Obtained { block: free - 1 };
-            Some(free - 1)
-        }
+    fn obtain(&mut self, _p: u32) -> Option<u32> {
+        self.asked = Some(Act::Obtain);
+        self.free
     }
 
-    fn release(&mut self, p: u32, block: u32) {
-        let _p = p;
-        self.outcome = Outcome::Released { block };
+    fn release(&mut self, _p: u32, block: u32) {
+        self.asked = Some(Act::Release { block });
     }
 }

@@ -35,18 +35,11 @@ fn in_memory(a: Act) -> bool
     ensures exact { InMemory a → T result }
 {
     match a {
-        Act::Load { block, word } => block < BLOCKS && word < BLOCK_WORDS,
-        Act::Store { block, word, x: _ } => block < BLOCKS && word < BLOCK_WORDS,
-        Act::Swap {
-            block,
-            word,
-            old: _,
-            new: _,
-        } => block < BLOCKS && word < BLOCK_WORDS,
+        Act::Load { block, word }
+        | Act::Store { block, word, .. }
+        | Act::Swap { block, word, .. } => block < BLOCKS && word < BLOCK_WORDS,
         Act::Release { block } => 0 < block && block < BLOCKS,
-        Act::Fence => true,
-        Act::Obtain => true,
-        Act::Pause => true,
+        Act::Fence | Act::Obtain | Act::Pause => true,
     }
 }
 

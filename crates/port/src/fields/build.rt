@@ -1,107 +1,118 @@
 // The states in which a tree is built and published.
 ghost use Rattle.std.specs.Prelude.{◌≡◌, Some as Some'};
-ghost use Rattle.routes.specs.declared.update.Phase.TheVariants.{Build as InBuild, Publish as InPublish};
+ghost use Rattle.std.specs.Result.{result_ok};
 ghost use Rattle.port.specs.Fields.{build_of, publish_of};
 
-use super::{Fields, NO_FIELDS};
-use routes::update::Phase;
+use super::{Fields, NO_FIELDS, UnknownState};
 use routes::update::build::Build;
 use routes::update::publish::Publish;
 
-pub fn build_fields(s: Build) -> Fields
-    ensures { build_of result ≡ Some' (InBuild s) }
-{
-    match s {
-        Build::Root => Fields {
-            state: 0,
-            ..NO_FIELDS
-        },
-        Build::Read {
-            k,
-            level,
-            word,
-            node,
-        } => Fields {
-            state: 1,
-            index: k,
-            level,
-            word,
-            node,
-            ..NO_FIELDS
-        },
-        Build::Edit { k, have } => Fields {
-            state: 2,
-            index: k,
-            level: have,
-            ..NO_FIELDS
-        },
-        Build::Write {
-            k,
-            first,
-            level,
-            word,
-        } => Fields {
-            state: 3,
-            index: k,
-            first,
-            level,
-            word,
-            ..NO_FIELDS
-        },
+impl From<Build> for Fields {
+    ghost from_gives = { λ s f. build_of f ≡ Some' s };
+
+    fn from(build: Build) -> Fields {
+        match build {
+            Build::Root => Fields {
+                state: 0,
+                ..NO_FIELDS
+            },
+            Build::Read {
+                k,
+                level,
+                word,
+                node,
+            } => Fields {
+                state: 1,
+                index: k,
+                level,
+                word,
+                node,
+                ..NO_FIELDS
+            },
+            Build::Edit { k, have } => Fields {
+                state: 2,
+                index: k,
+                level: have,
+                ..NO_FIELDS
+            },
+            Build::Write {
+                k,
+                first,
+                level,
+                word,
+            } => Fields {
+                state: 3,
+                index: k,
+                first,
+                level,
+                word,
+                ..NO_FIELDS
+            },
+        }
     }
 }
 
-pub fn build_of(f: Fields) -> Option<Phase>
-    ensures { result ≡ build_of f }
-{
-    match f.state {
-        0 => Some(Phase::Build(Build::Root)),
-        1 => Some(Phase::Build(Build::Read {
-            k: f.index,
-            level: f.level,
-            word: f.word,
-            node: f.node,
-        })),
-        2 => Some(Phase::Build(Build::Edit {
-            k: f.index,
-            have: f.level,
-        })),
-        3 => Some(Phase::Build(Build::Write {
-            k: f.index,
-            first: f.first,
-            level: f.level,
-            word: f.word,
-        })),
-        _ => None,
+impl TryFrom<Fields> for Build {
+    type Error = UnknownState;
+
+    ghost try_from_gives = { λ f r. result_ok r ≡ build_of f };
+
+    fn try_from(f: Fields) -> Result<Build, UnknownState> {
+        match f.state {
+            0 => Ok(Build::Root),
+            1 => Ok(Build::Read {
+                k: f.index,
+                level: f.level,
+                word: f.word,
+                node: f.node,
+            }),
+            2 => Ok(Build::Edit {
+                k: f.index,
+                have: f.level,
+            }),
+            3 => Ok(Build::Write {
+                k: f.index,
+                first: f.first,
+                level: f.level,
+                word: f.word,
+            }),
+            _ => Err(UnknownState),
+        }
     }
 }
 
-pub fn publish_fields(s: Publish) -> Fields
-    ensures { publish_of result ≡ Some' (InPublish s) }
-{
-    match s {
-        Publish::FenceNodes => Fields {
-            state: 0,
-            ..NO_FIELDS
-        },
-        Publish::SetRoot => Fields {
-            state: 1,
-            ..NO_FIELDS
-        },
-        Publish::FenceRoot => Fields {
-            state: 2,
-            ..NO_FIELDS
-        },
+impl From<Publish> for Fields {
+    ghost from_gives = { λ s f. publish_of f ≡ Some' s };
+
+    fn from(publish: Publish) -> Fields {
+        match publish {
+            Publish::FenceNodes => Fields {
+                state: 0,
+                ..NO_FIELDS
+            },
+            Publish::SetRoot => Fields {
+                state: 1,
+                ..NO_FIELDS
+            },
+            Publish::FenceRoot => Fields {
+                state: 2,
+                ..NO_FIELDS
+            },
+        }
     }
 }
 
-pub fn publish_of(f: Fields) -> Option<Phase>
-    ensures { result ≡ publish_of f }
-{
-    match f.state {
-        0 => Some(Phase::Publish(Publish::FenceNodes)),
-        1 => Some(Phase::Publish(Publish::SetRoot)),
-        2 => Some(Phase::Publish(Publish::FenceRoot)),
-        _ => None,
+impl TryFrom<Fields> for Publish {
+    type Error = UnknownState;
+
+    ghost try_from_gives = { λ f r. result_ok r ≡ publish_of f };
+
+    fn try_from(f: Fields) -> Result<Publish, UnknownState> {
+        match f.state {
+            0 => Ok(Publish::FenceNodes),
+            1 => Ok(Publish::SetRoot),
+            2 => Ok(Publish::FenceRoot),
+            _ => Err(UnknownState),
+        }
     }
 }

@@ -4,4 +4,4 @@ use Rattle.port.proofs.Replying.{done}
 use Rattle.port.proofs.reply.OneReplyMemory.release.Goals as goal
 
 pub returns : goal.returns
-returns c = (done c.args.self.now c.args.p (λ p m. counted (released c.args.block m)) c.requires.0 c.requires.1, refl)
+returns c = (done c.args.self.now c.args._p (λ p m. counted (released c.args.block m)) c.requires.0 c.requires.1, refl)

@@ -1,6 +1,6 @@
 use Rattle.std.proofs.Common.{arith}
 use Rattle.port.proofs.Words.{Fit, reads}
-use Rattle.port.proofs.registers.registers_words.Goals as goal
+use Rattle.port.proofs.registers.RegisterWordsFromRegisters.from.Goals as goal
 
 fit : (c : goal.After-best_word) → Fit c.args.r
 fit c = record {

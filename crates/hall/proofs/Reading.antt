@@ -4,14 +4,11 @@ use Rattle.std.proofs.lemmas.Bool.{cases_Bool, and_parts, ltb-true}
 use Rattle.std.specs.Option.{ok_or}
 use Rattle.std.specs.Str.Parse.{digits_value}
 use Rattle.script.specs.declared.command.Command.{Command}
-use Rattle.script.specs.declared.command.Line.{Line}
-use Rattle.script.specs.declared.command.Line.TheVariants as line
 use Rattle.script.specs.declared.expected.Expected.{Expected}
 use Rattle.script.specs.declared.expected.Expected.TheVariants as expected
-use Rattle.script.specs.declared.bytes.Kind.TheVariants.{Digit}
 use Rattle.script.specs.declared.keyword.Keyword.{Keyword}
 use Rattle.script.specs.declared.keyword.Keyword.TheVariants.{Find, Put, Take, Go, On, Any, Arrive}
-use Rattle.script.specs.Bytes.{all_of}
+use Rattle.script.specs.Bytes.{all_digits}
 use Rattle.script.specs.Keywords.{keyword_of}
 use Rattle.script.specs.Lines.{go_of, on_of, any_of, arrive_of, find_of, changes_of, ask_by, begin_of, command_by, command_of, passed, chomped, line_from, line_of}
 use Rattle.script.specs.Numbers.{address_of}
@@ -26,9 +23,9 @@ Fine n (Ok c) = Within n c
 Fine n (Err e) = Unit {0}
 
 -- the same of a line
-abbrev pub FineLine : ℕ → Result Line Expected → Type 0
-FineLine n (Ok line.Blank) = Unit {0}
-FineLine n (Ok (line.Command c)) = Within n c
+abbrev pub FineLine : ℕ → Result (Option Command) Expected → Type 0
+FineLine n (Ok None) = Unit {0}
+FineLine n (Ok (Some c)) = Within n c
 FineLine n (Err e) = Unit {0}
 
 -- what follows what was read is fine if it is fine for whatever that was
@@ -38,8 +35,8 @@ then_fine n (Err e) f h = tt
 
 -- a processor's number that was read is below their count
 cpu_fine : (n : ℕ) (w : List ℕ) (f : ℕ → Result Command Expected) → ((p : ℕ) → p < n → Fine n (f p)) → Fine n (processor_of n w >>= f)
-cpu_fine n w f h = elim (cases_Bool (all_of (Digit 10) w && ltb (digits_value 10 w) n)) [
-  | inl e ↦ rw e (h (digits_value 10 w) (ltb-true (digits_value 10 w) n (and_parts (all_of (Digit 10) w) (ltb (digits_value 10 w) n) e).1))
+cpu_fine n w f h = elim (cases_Bool (all_digits 10 w && ltb (digits_value 10 w) n)) [
+  | inl e ↦ rw e (h (digits_value 10 w) (ltb-true (digits_value 10 w) n (and_parts (all_digits 10 w) (ltb (digits_value 10 w) n) e).1))
   | inr e ↦ rw e tt
 ]
 
@@ -85,7 +82,7 @@ either_fine n false r s h k = k
 
 -- what a processor's number begins is on a processor that there is
 begin_fine : (n : ℕ) (w t : List ℕ) → Fine n (begin_of n w t)
-begin_fine n w t = either_fine n (all_of (Digit 10) w) _ _ (cpu_fine n w (λ p. ask_by (keyword_of (word t)) p t) (λ p h. ask_fine n p t (keyword_of (word t)) h)) tt
+begin_fine n w t = either_fine n (all_digits 10 w) _ _ (cpu_fine n w (λ p. ask_by (keyword_of (word t)) p t) (λ p h. ask_fine n p t (keyword_of (word t)) h)) tt
 
 -- so of every command, by its first word
 command_fine : (n : ℕ) (w t : List ℕ) (k : Option Keyword) → Fine n (command_by k n w t)
@@ -99,7 +96,7 @@ command_fine n w t (Some Take) = tt
 command_fine n w t None = begin_fine n w t
 
 -- a line is fine if its command is
-on_a_line : (n : ℕ) (r : Result Command Expected) → Fine n r → FineLine n (r >>= λ c. Ok (line.Command c))
+on_a_line : (n : ℕ) (r : Result Command Expected) → Fine n r → FineLine n (r >>= λ c. Ok (Some c))
 on_a_line n (Ok c) h = h
 on_a_line n (Err e) h = tt
 
@@ -111,5 +108,5 @@ from_fine n t = elim (cases_Bool (passed (word t))) [
 ]
 
 -- A command that a line is names one of the processors.
-pub line_within : (n : ℕ) (t : List ℕ) (l : Line) (c : Command) → Ok l ≡ line_of n t → l ≡ line.Command c → Within n c
-line_within n t l c e k = let P : Result Line Expected → Type 0 = FineLine n in subst P (sym e ∙ ap Ok k) (from_fine n (chomped t))
+pub line_within : (n : ℕ) (t : List ℕ) (l : Option Command) (c : Command) → Ok l ≡ line_of n t → l ≡ Some c → Within n c
+line_within n t l c e k = let P : Result (Option Command) Expected → Type 0 = FineLine n in subst P (sym e ∙ ap Ok k) (from_fine n (chomped t))

@@ -6,7 +6,7 @@ use Rattle.script.specs.declared.command.Command.TheVariants.{Begin, Go, On, Any
 
 -- of so many processors
 abbrev pub Within : ℕ → Command → Type 0
-Within n (Begin cpu k ps) = cpu < n
+Within n (Begin cpu r) = cpu < n
 Within n (Go cpu turns) = cpu < n
 Within n (On cpu) = cpu < n
 Within n (Any seed turns) = Unit {0}

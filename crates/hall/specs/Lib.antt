@@ -2,3 +2,4 @@ pub mod Commands
 pub mod Games
 pub mod Players
 pub mod Stops
+pub mod Told

@@ -14,15 +14,15 @@ use Rattle.plain.specs.Tables.{table_routes}
 use Rattle.plain.specs.declared.change_error.ChangeError.{ChangeError}
 use Rattle.plain.specs.declared.change_error.ChangeError.TheVariants.{Refused, NoRoom}
 use Rattle.plain.specs.declared.table.PlainTable.{PlainTable}
-use Rattle.hall.specs.declared.player.Job.{Job}
+use Rattle.script.specs.declared.request.Request.{Request}
 use Rattle.hall.specs.declared.player.Player.{Player}
 
 -- what a processor has under way
-abbrev pub job_of : Player → ℕ → Option Job
+abbrev pub job_of : Player → ℕ → Option Request
 job_of g p = slice_index_or g.jobs p None
 
 -- Something begins on a processor that has nothing under way; else all stays as it was.
-abbrev pub Begun : Option Job → ℕ → Job → Player → Bool → Player → Type 0
+abbrev pub Begun : Option Request → ℕ → Request → Player → Bool → Player → Type 0
 Begun None p j before r after = (r ≡ true) × (after.jobs ≡ slice_set before.jobs p (Some j)) × (after.table ≡ before.table)
 Begun (Some k) p j before r after = (r ≡ false) × (after ≡ before)
 
@@ -46,28 +46,28 @@ AskTold (Find a) ps before r after = (r ≡ find a (table_routes before)) × (af
 AskTold (Change n) ps before r after = ChangeTold (pieces_of (Change n) ps) before r after
 
 -- it is told, and its processor has nothing under way
-pub record JobTold (j : Job) (p : ℕ) (before : Player) (r : Answer) (after : Player) : Type 0 where
+pub record JobTold (j : Request) (p : ℕ) (before : Player) (r : Answer) (after : Player) : Type 0 where
   pub told : AskTold j.ask j.pieces before.table r after.table
   pub jobs : after.jobs ≡ slice_set before.jobs p None
 
 -- A turn of a processor: what it has under way is told; where it has nothing, all stays as it was.
-abbrev pub Turned : Option Job → ℕ → Player → Option Answer → Player → Type 0
+abbrev pub Turned : Option Request → ℕ → Player → Option Answer → Player → Type 0
 Turned None p before r after = (r ≡ None) × (after ≡ before)
 Turned (Some j) p before None after = ⊥
 Turned (Some j) p before (Some a) after = JobTold j p before a after
 
 -- how many of the first n processors have something under way
-abbrev pub busy_below : List (Option Job) → ℕ → ℕ
+abbrev pub busy_below : List (Option Request) → ℕ → ℕ
 busy_below js zero = 0
 busy_below js (suc n) = busy_below js n + cond (is_some (slice_index_or js n None)) 1 0
 
 -- the processor that has something under way and before which k have
-pub record IsNth (js : List (Option Job)) (k : ℕ) (p : ℕ) : Type 0 where
+pub record IsNth (js : List (Option Request)) (k : ℕ) (p : ℕ) : Type 0 where
   pub within : p < 4
   pub busy : is_some (slice_index_or js p None) ≡ true
   pub before : busy_below js p ≡ k
 
 -- Of m processors that have something under way, the one that a number chooses by its rest by m; none where m is 0.
-abbrev pub Chosen : List (Option Job) → ℕ → Option ℕ → Type 0
+abbrev pub Chosen : List (Option Request) → ℕ → Option ℕ → Type 0
 Chosen js x None = busy_below js 4 ≡ 0
 Chosen js x (Some p) = IsNth js (x % busy_below js 4) p

@@ -7,9 +7,8 @@ ghost use Rattle.hall.specs.declared.stop.Stop.TheVariants.{LongLine, OutOfTurns
 use super::draws::Draws;
 use super::player::{CPUS, Player};
 use super::stop::Stop;
-use routes::{Answer, Ask, Piece};
-use script::{Command, Line, read_line};
-use std::io;
+use super::told::Told;
+use script::{Command, Request, read_line};
 
 // How many turns a script may take.
 pub const TURN_LIMIT: u32 = 4_000_000;
@@ -21,26 +20,6 @@ pub struct Game {
     left: u32,
     // the number of the line that was begun last, from 1
     pub line: u64,
-}
-
-// A script stops where nothing can be printed.
-fn printed(res: io::Result<()>) -> Result<(), Stop> {
-    match res {
-        Ok(()) => Ok(()),
-        Err(error) => Err(Stop::Unprintable(error)),
-    }
-}
-
-// Prints what a processor tells.
-fn tell<R: Print>(rt: &R, cpu: u8, told: Option<Answer>) -> Result<(), Stop> {
-    printed(match told {
-        None => Ok(()),
-        Some(Answer::Found(len, tells)) => println!(rt; "{cpu} {len} {tells}"),
-        Some(Answer::Nothing) => println!(rt; "{cpu} nothing"),
-        Some(Answer::Done) => println!(rt; "{cpu} done"),
-        Some(Answer::Full) => println!(rt; "{cpu} full"),
-        Some(Answer::No(why)) => println!(rt; "{cpu} no {why}"),
-    })
 }
 
 impl Game {
@@ -75,10 +54,9 @@ impl Game {
         ensures line { self.new.line ≡ next_line self.old }
     {
         self.next_line();
-        let line = read_line(text, CPUS)?;
-        match line {
-            Line::Blank => Ok(()),
-            Line::Command(command) => self.play(rt, command),
+        match read_line(text, CPUS)? {
+            Some(command) => self.play(rt, command),
+            None => Ok(()),
         }
     }
 
@@ -87,7 +65,7 @@ impl Game {
         ensures line { self.new.line ≡ self.old.line }
     {
         match command {
-            Command::Begin { cpu, ask, pieces } => self.begin(rt, cpu, ask, pieces),
+            Command::Begin { cpu, request } => self.begin(rt, cpu, request),
             Command::Go { cpu, turns } => self.go(rt, cpu, turns),
             Command::On { cpu } => self.go(rt, cpu, u32::MAX),
             Command::Any { seed, turns } => self.any(rt, seed, turns),
@@ -96,14 +74,14 @@ impl Game {
         }
     }
 
-    fn begin<R: Print>(&mut self, rt: &R, cpu: u8, ask: Ask, pieces: [Piece; 8]) -> Result<(), Stop>
+    fn begin<R: Print>(&mut self, rt: &R, cpu: u8, request: Request) -> Result<(), Stop>
         requires { cpu < 4 }
         ensures line { self.new.line ≡ self.old.line }
     {
-        if self.player.begin(cpu, ask, pieces) {
+        if self.player.begin(cpu, request) {
             return Ok(());
         }
-        printed(println!(rt; "{cpu} busy"))
+        println!(rt; "{cpu} busy").map_err(Stop::Unprintable)
     }
 
     // A turn of a processor, if one is left.
@@ -117,8 +95,10 @@ impl Game {
             return Err(Stop::OutOfTurns);
         }
         self.left -= 1;
-        let told = self.player.turn(cpu);
-        tell(rt, cpu, told)
+        match self.player.turn(cpu) {
+            Some(answer) => rt.println(Told { cpu, answer }).map_err(Stop::Unprintable),
+            None => Ok(()),
+        }
     }
 
     // Up to so many turns of a processor, while it has something under way.
@@ -154,6 +134,6 @@ impl Game {
     // The last line that is printed.
     pub fn end<R: Print>(&self, rt: &R) -> Result<(), Stop> {
         let held = self.player.held();
-        printed(println!(rt; "held {held}"))
+        println!(rt; "held {held}").map_err(Stop::Unprintable)
     }
 }

@@ -9,6 +9,7 @@ mod game;
 mod player;
 mod source;
 mod stop;
+mod told;
 
 use game::Game;
 use source::{LINE_ROOM, play_lines};
@@ -62,23 +63,20 @@ fn play_argument<R: Env + Files + Print + Eprint>(
     room: &mut [u8],
 ) -> Result<bool, Failed> {
     let mut name = [0u8; 4096];
-    match rt.arg(i, &mut name) {
-        Ok(len) => match std::str::from_utf8(&name[..len]) {
-            Ok(text) => {
-                play_file(rt, text, room)?;
-                Ok(true)
-            }
-            Err(_) => {
-                let _ = eprintln!(rt; "argument {i}: expected a name in UTF-8");
-                Err(Failed)
-            }
-        },
-        Err(FillError::NotPresent) => Ok(false),
+    let len = match rt.arg(i, &mut name) {
+        Ok(len) => len,
+        Err(FillError::NotPresent) => return Ok(false),
         Err(FillError::TooLong) => {
             let _ = eprintln!(rt; "argument {i}: expected a name of at most 4096 bytes");
-            Err(Failed)
+            return Err(Failed);
         }
-    }
+    };
+    let Ok(text) = std::str::from_utf8(&name[..len]) else {
+        let _ = eprintln!(rt; "argument {i}: expected a name in UTF-8");
+        return Err(Failed);
+    };
+    play_file(rt, text, room)?;
+    Ok(true)
 }
 
 // Plays the scripts that the arguments behind the first one name.

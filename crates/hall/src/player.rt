@@ -1,26 +1,21 @@
 // Four processors and their table: whatever is asked takes effect in its processor's next turn, in which it is told.
-ghost use Rattle.std.specs.Prelude.{◌≡◌, ◌<◌, [], length, replicate, is_some, None, MatchOption};
+ghost use Rattle.std.specs.Prelude.{◌≡◌, ◌<◌, [], replicate, is_some, None, MatchOption};
 ghost use Rattle.plain.specs.Tables.{table_routes};
 ghost use Rattle.hall.specs.Players.{job_of, Begun, AskTold, outcome_of, Turned, busy_below, IsNth, Chosen};
 
 use plain::{ChangeError, PlainTable};
 use routes::{Answer, Ask, Piece, Refusal};
+use script::Request;
 
 pub const CPUS: u8 = 4;
 // A plain table holds the header block alone.
 const HEADER_BLOCKS: u32 = 1;
 
-// What was asked of a processor. Of a change there are the first eight pieces.
-#[derive(Clone, Copy)]
-pub struct Job {
-    ask: Ask,
-    pieces: [Piece; 8],
-}
-
 #[derive(Drop)]
 pub struct Player {
     table: PlainTable,
-    jobs: [Option<Job>; 4],
+    // what each was asked
+    jobs: [Option<Request>; 4],
 }
 
 impl Player {
@@ -44,14 +39,14 @@ impl Player {
     }
 
     // Something begins on a processor, unless it has something under way.
-    pub fn begin(&mut self, cpu: u8, ask: Ask, pieces: [Piece; 8]) -> bool
+    pub fn begin(&mut self, cpu: u8, request: Request) -> bool
         requires { cpu < 4 }
-        ensures { Begun (job_of self.old cpu) cpu (record { ask = ask; pieces = pieces }) self.old result self.new }
+        ensures { Begun (job_of self.old cpu) cpu request self.old result self.new }
     {
         if self.is_busy(cpu) {
             return false;
         }
-        self.jobs[cpu as usize] = Some(Job { ask, pieces });
+        self.jobs[cpu as usize] = Some(request);
         true
     }
 
@@ -60,20 +55,15 @@ impl Player {
         requires { cpu < 4 }
         ensures { Turned (job_of self.old cpu) cpu self.old result self.new }
     {
-        let job = self.jobs[cpu as usize]?;
-        self.jobs[cpu as usize] = None;
-        Some(answer(&mut self.table, job))
+        let request = self.jobs[cpu as usize].take()?;
+        Some(answer(&mut self.table, request))
     }
 
     // The processor whose turn it is by a number, of those that have something under way.
     pub fn choose(&self, number: u64) -> Option<u8>
         ensures { Chosen self.now.jobs number result }
     {
-        let count = self.busy_count();
-        if count == 0 {
-            return None;
-        }
-        self.nth_busy(number % count)
+        self.nth_busy(number.checked_rem(self.busy_count())?)
     }
 
     // How many processors have something under way.
@@ -112,18 +102,17 @@ impl Player {
 }
 
 // What is told of what was asked.
-fn answer(table: &mut PlainTable, job: Job) -> Answer
-    ensures { AskTold job.ask job.pieces table.old result table.new }
+fn answer(table: &mut PlainTable, request: Request) -> Answer
+    ensures { AskTold request.ask request.pieces table.old result table.new }
 {
-    match job.ask {
+    match request.ask {
         Ask::Find(address) => table.find(address),
-        Ask::Change(size) => change(table, size, &job.pieces),
+        Ask::Change(size) => change(table, size, &request.pieces),
     }
 }
 
 // A change of so many pieces, and what is told of it.
-fn change(table: &mut PlainTable, size: u32, pieces: &[Piece]) -> Answer
-    requires { length pieces.now ≡ 8 }
+fn change(table: &mut PlainTable, size: u32, pieces: &[Piece; 8]) -> Answer
     ensures { AskTold (Ask.Change size) pieces.now table.old result table.new }
 {
     if size > 8 {

@@ -32,10 +32,7 @@ pub fn play_lines<I: Read, R: Print>(
 ) -> Result<(), Stop> {
     let mut held = 0;
     for _ in 0..u64::MAX {
-        let read = match input.read(&mut room[held..]) {
-            Ok(read) => read,
-            Err(error) => return Err(Stop::Unreadable(error)),
-        };
+        let read = input.read(&mut room[held..]).map_err(Stop::Unreadable)?;
         if read == 0 {
             break;
         }

@@ -1,14 +1,13 @@
 -- The number that digits write, one digit after the other.
-use Rattle.std.proofs.Common.{◌≡◌, ℕ, ◌+◌, ◌*◌, ◌^◌, ◌<◌, ◌≤◌, true, ltb, List, [], ◌∷◌, length, get_or, drop, Some, None, sym, ◌∙◌, inl, inr, mul-le-mul_left, arith}
+use Rattle.std.proofs.Common.{◌≡◌, ℕ, ◌+◌, ◌*◌, ◌^◌, ◌<◌, ◌≤◌, true, List, [], ◌∷◌, length, get_or, drop, Some, None, sym, ◌∙◌, inl, inr, mul-le-mul_left, arith}
 use Rattle.std.proofs.lemmas.Int.Digits.{digits_value-lt}
 use Rattle.std.proofs.lemmas.List.{at_drop_more, at_drop_all}
-use Rattle.std.proofs.lemmas.Bool.{cases_lt, cases_Bool, ltb-true, eqb-true, and_parts}
+use Rattle.std.proofs.lemmas.Bool.{cases_lt, ltb-true, and_parts}
 use Rattle.std.proofs.lemmas.Bool.Decides.{nat_tests}
 use Rattle.std.specs.Str.Parse.{AllDigits, digits_value, digits_value_after}
-use Rattle.std.specs.Char.{digit_value}
-use Rattle.std.specs.List.{prefix_len}
-use Rattle.script.specs.declared.bytes.Kind.TheVariants.{Digit}
-use Rattle.script.specs.Bytes.{all_of}
+use Rattle.std.specs.Char.{digit_value, is_digit}
+use Rattle.std.specs.List.{list_all}
+use Rattle.script.specs.Bytes.{all_digits}
 use Rattle.script.specs.Numbers.{small}
 
 -- A number of at most 64 bits is itself.
@@ -58,17 +57,15 @@ module _ (r n d : ℕ) (ds : List ℕ) (i : ℕ) (inv : digits_value_after r n (
       let is : n ≡ digits_value r ds = sym (at_drop_all (digits_value_after r n) ds i h) ∙ inv in
       rw (← is) (grind (arith, nat_tests))
 
--- A text whose front of digits is the whole is digits.
-pub digits_from_front : (r : ℕ) (t : List ℕ) → prefix_len (λ b. ltb (digit_value b) r) t ≡ length t → AllDigits r t
-digits_from_front r [] e = tt
-digits_from_front r (c ∷ cs) e = elim (cases_Bool (ltb (digit_value c) r)) [
-  | inl h ↦ (ltb-true _ _ h, digits_from_front r cs (let f = rw h at e in omega arith))
-  | inr h ↦ (let f = rw h at e in absurd (omega arith))
-]
+-- A text of which each byte is a digit is digits.
+pub digits_from_each : (r : ℕ) (t : List ℕ) → list_all (λ b. is_digit b r) t ≡ true → AllDigits r t
+digits_from_each r [] e = tt
+digits_from_each r (c ∷ cs) e =
+    let each = and_parts (is_digit c r) (list_all (λ b. is_digit b r) cs) e in
+    (ltb-true _ _ each.0, digits_from_each r cs each.1)
 
 -- Eight hexadecimal digits write a number of 32 bits.
-pub address_fits : (t : List ℕ) → all_of (Digit 16) t ≡ true → length t ≡ 8 → digits_value 16 t < 2 ^ 32
+pub address_fits : (t : List ℕ) → all_digits 16 t ≡ true → length t ≡ 8 → digits_value 16 t < 2 ^ 32
 address_fits t e l =
-    let whole = (and_parts _ _ e).1 in
-    let below = digits_value-lt 16 t (digits_from_front 16 t (eqb-true _ _ whole)) in
+    let below = digits_value-lt 16 t (digits_from_each 16 t (and_parts _ _ e).1) in
     rw l at below

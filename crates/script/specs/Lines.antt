@@ -3,16 +3,13 @@
 use Rattle.std.specs.Prelude.{◌≡◌, ℕ, ◌-◌, ◌<◌, Bool, cond, ◌||◌, List, length, take, replicate, Some, None, Ok, Err, Option, Result, ◌==◌, ◌≢◌, slice_index, slice_index_or}
 use Rattle.std.specs.Option.{ok_or}
 use Rattle.routes.specs.declared.Ask.TheVariants as ask
-use Rattle.script.specs.declared.bytes.Kind.TheVariants.{Digit}
 use Rattle.script.specs.declared.command.Command.{Command}
 use Rattle.script.specs.declared.command.Command.TheVariants as command
-use Rattle.script.specs.declared.command.Line.{Line}
-use Rattle.script.specs.declared.command.Line.TheVariants as line
 use Rattle.script.specs.declared.expected.Expected.{Expected}
 use Rattle.script.specs.declared.expected.Expected.TheVariants as expected
 use Rattle.script.specs.declared.keyword.Keyword.{Keyword}
 use Rattle.script.specs.declared.keyword.Keyword.TheVariants.{Find, Put, Take, Go, On, Any, Arrive}
-use Rattle.script.specs.Bytes.{all_of}
+use Rattle.script.specs.Bytes.{all_digits}
 use Rattle.script.specs.Keywords.{keyword_of}
 use Rattle.script.specs.Numbers.{address_of}
 use Rattle.script.specs.Pieces.{blank_piece, change_of}
@@ -47,11 +44,11 @@ arrive_of cpus t = processor_of cpus (word t) >>= λ p. count_of (word (past t))
 
 -- a question begins
 abbrev pub find_of : ℕ → List ℕ → Result Command Expected
-find_of cpu t = ok_or (address_of (word t)) expected.Address >>= λ a. end_of expected.End (past t) >>= λ _. Ok (command.Begin cpu (ask.Find a) (replicate 8 blank_piece))
+find_of cpu t = ok_or (address_of (word t)) expected.Address >>= λ a. end_of expected.End (past t) >>= λ _. Ok (command.Begin cpu (record { ask = ask.Find a; pieces = replicate 8 blank_piece }))
 
 -- a change begins
 abbrev pub changes_of : ℕ → List ℕ → Result Command Expected
-changes_of cpu t = change_of t >>= λ c. Ok (command.Begin cpu (ask.Change c.count) c.pieces)
+changes_of cpu t = change_of t >>= λ c. Ok (command.Begin cpu (record { ask = ask.Change c.count; pieces = c.pieces }))
 
 abbrev pub ask_by : Option Keyword → ℕ → List ℕ → Result Command Expected
 ask_by (Some Find) cpu t = find_of cpu (past t)
@@ -69,7 +66,7 @@ ask_of cpu t = ask_by (keyword_of (word t)) cpu t
 
 -- w is a processor's number
 abbrev pub begin_of : ℕ → List ℕ → List ℕ → Result Command Expected
-begin_of cpus w t = cond (all_of (Digit 10) w) (processor_of cpus w >>= λ p. ask_of p t) (Err expected.Command)
+begin_of cpus w t = cond (all_digits 10 w) (processor_of cpus w >>= λ p. ask_of p t) (Err expected.Command)
 
 abbrev pub command_by : Option Keyword → ℕ → List ℕ → List ℕ → Result Command Expected
 command_by (Some Go) cpus w t = go_of cpus t
@@ -93,9 +90,9 @@ passed w = length w == 0 || slice_index w 0 == 35
 abbrev pub chomped : List ℕ → List ℕ
 chomped t = cond (slice_index t (length t - 1) == 13) (take (length t - 1) t) t
 
-abbrev pub line_from : ℕ → List ℕ → Result Line Expected
-line_from cpus t = cond (passed (word t)) (Ok line.Blank) (command_of cpus (word t) (past t) >>= λ c. Ok (line.Command c))
+abbrev pub line_from : ℕ → List ℕ → Result (Option Command) Expected
+line_from cpus t = cond (passed (word t)) (Ok None) (command_of cpus (word t) (past t) >>= λ c. Ok (Some c))
 
--- what a line is
-abbrev pub line_of : ℕ → List ℕ → Result Line Expected
+-- the command of a line, if it has one
+abbrev pub line_of : ℕ → List ℕ → Result (Option Command) Expected
 line_of cpus t = line_from cpus (chomped t)

@@ -1,6 +1,7 @@
 -- The pieces of a change.
 -- Assumes nothing.
-use Rattle.std.specs.Prelude.{ℕ, ◌+◌, ◌-◌, ◌^◌, min, true, false, cond, List, [], ◌∷◌, replicate, Some, None, Ok, Err, Option, Result, ◌==◌, slice_set}
+use Rattle.std.specs.Prelude.{ℕ, ◌+◌, ◌-◌, ◌^◌, min, true, false, List, [], ◌∷◌, replicate, Some, None, Ok, Err, Option, Result, ◌==◌, slice_set}
+use Rattle.std.specs.List.{slice_split}
 use Rattle.routes.specs.declared.Piece.{Piece}
 use Rattle.script.specs.declared.expected.Expected.{Expected}
 use Rattle.script.specs.declared.expected.Expected.TheVariants as expected
@@ -11,19 +12,9 @@ use Rattle.script.specs.Keywords.{keyword_of}
 use Rattle.script.specs.Reading.{◌>>=◌, count_of, prefix_of, end_of}
 use Rattle.script.specs.Words.{word, past}
 
--- a byte more in front of the first part
-abbrev pub onto : ℕ → List (List ℕ) → List (List ℕ)
-onto c [] = (c ∷ []) ∷ []
-onto c (p ∷ ps) = (c ∷ p) ∷ ps
-
 -- the parts of a text between commas
-unfoldable pub parts : List ℕ → List (List ℕ)
-parts [] = [] ∷ []
-parts (c ∷ cs) = cond (c == 44) ([] ∷ parts cs) (onto c (parts cs))
-
-abbrev pub parts_after : Option (List ℕ) → List (List ℕ)
-parts_after None = []
-parts_after (Some t) = parts t
+abbrev pub parts : List ℕ → List (List ℕ)
+parts t = slice_split (λ b. b == 44) t
 
 -- a piece that puts a route in, after its first word
 abbrev pub put_of : List ℕ → Result Piece Expected

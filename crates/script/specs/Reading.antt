@@ -2,11 +2,10 @@
 -- Assumes nothing.
 use Rattle.std.specs.Prelude.{ℕ, ◌^◌, cond, ◌&&◌, List, length, take, drop, Some, None, Ok, Err, Option, Result, ◌==◌, nat_lt, slice_index}
 use Rattle.std.specs.Str.Parse.{digits_value}
-use Rattle.script.specs.declared.bytes.Kind.TheVariants.{Digit}
 use Rattle.script.specs.declared.expected.Expected.{Expected}
 use Rattle.script.specs.declared.expected.Expected.TheVariants as expected
 use Rattle.script.specs.declared.reading.Prefix.{Prefix}
-use Rattle.script.specs.Bytes.{all_of}
+use Rattle.script.specs.Bytes.{all_digits}
 use Rattle.script.specs.Numbers.{address_of, length_of}
 use Rattle.script.specs.Words.{word}
 
@@ -18,7 +17,7 @@ abbrev pub ◌>>=◌ : {A B : Type 0} → Result A Expected → (A → Result B 
 
 -- a decimal number below a bound
 abbrev pub below : ℕ → Expected → List ℕ → Result ℕ Expected
-below bound e w = cond (all_of (Digit 10) w && nat_lt (digits_value 10 w) bound) (Ok (digits_value 10 w)) (Err e)
+below bound e w = cond (all_digits 10 w && nat_lt (digits_value 10 w) bound) (Ok (digits_value 10 w)) (Err e)
 
 -- a processor, of so many
 abbrev pub processor_of : ℕ → List ℕ → Result ℕ Expected

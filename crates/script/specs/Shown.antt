@@ -1,13 +1,12 @@
 -- What a command is shown as, and that reading gives it back.
 -- Assumes nothing.
-use Rattle.std.specs.Prelude.{◌≡◌, ℕ, zero, suc, ◌-◌, ◌/◌, ◌%◌, ◌^◌, ◌<◌, ◌≤◌, false, cond, List, [], ◌∷◌, ◌++◌, map, length, take, drop, replicate, Ok, codes, decimal, All}
+use Rattle.std.specs.Prelude.{◌≡◌, ℕ, zero, suc, ◌-◌, ◌/◌, ◌%◌, ◌^◌, ◌<◌, ◌≤◌, false, cond, List, [], ◌∷◌, ◌++◌, map, length, take, drop, replicate, Some, Ok, codes, decimal, All}
 use Rattle.std.specs.Char.{digit_char}
 use Rattle.routes.specs.declared.Ask.{Ask}
 use Rattle.routes.specs.declared.Ask.TheVariants.{Find, Change}
 use Rattle.routes.specs.declared.Piece.{Piece}
 use Rattle.script.specs.declared.command.Command.{Command}
 use Rattle.script.specs.declared.command.Command.TheVariants.{Begin, Go, On, Any, Arrive}
-use Rattle.script.specs.declared.command.Line.TheVariants as line
 use Rattle.script.specs.Lines.{line_of}
 use Rattle.script.specs.Pieces.{blank_piece}
 
@@ -46,7 +45,7 @@ shown_ask cpu (Find a) ps = sentence (decimal cpu ∷ codes "find" ∷ hexadecim
 shown_ask cpu (Change n) ps = decimal cpu ++ shown_pieces (take n ps)
 
 abbrev pub shown : Command → List ℕ
-shown (Begin cpu ask ps) = shown_ask cpu ask ps
+shown (Begin cpu r) = shown_ask cpu r.ask r.pieces
 shown (Go cpu turns) = sentence (codes "go" ∷ decimal cpu ∷ decimal turns ∷ [])
 shown (On cpu) = sentence (codes "on" ∷ decimal cpu ∷ [])
 shown (Any seed turns) = sentence (codes "any" ∷ decimal seed ∷ decimal turns ∷ [])
@@ -73,7 +72,7 @@ FitsAsk (Change n) ps = FitsChange n ps
 
 -- a command that a script for so many processors can give
 abbrev pub Fits : ℕ → Command → Type 0
-Fits cpus (Begin cpu ask ps) = (cpu < cpus) × FitsAsk ask ps
+Fits cpus (Begin cpu r) = (cpu < cpus) × FitsAsk r.ask r.pieces
 Fits cpus (Go cpu turns) = (cpu < cpus) × (turns < 2 ^ 32)
 Fits cpus (On cpu) = cpu < cpus
 Fits cpus (Any seed turns) = (seed < 2 ^ 64) × (turns < 2 ^ 32)
@@ -81,4 +80,4 @@ Fits cpus (Arrive cpu stores) = (cpu < cpus) × (stores < 2 ^ 32)
 
 -- Reading what a command is shown as gives the command.
 abbrev pub ReadsBack : Type 0
-ReadsBack = (cpus : ℕ) → cpus < 256 → (c : Command) → Fits cpus c → line_of cpus (shown c) ≡ Ok (line.Command c)
+ReadsBack = (cpus : ℕ) → cpus < 256 → (c : Command) → Fits cpus c → line_of cpus (shown c) ≡ Ok (Some c)

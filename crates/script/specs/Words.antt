@@ -1,16 +1,16 @@
 -- The words of a line.
 -- Assumes nothing.
 use Rattle.std.specs.Prelude.{ℕ, cond, List, take, drop, ◌==◌, slice_index}
-use Rattle.script.specs.declared.bytes.Kind.TheVariants.{Blank, Letter}
-use Rattle.script.specs.Bytes.{front_of}
+use Rattle.std.specs.List.{prefix_len}
+use Rattle.script.specs.Bytes.{blank, letter}
 
 -- a text without the blanks in front
 abbrev pub started : List ℕ → List ℕ
-started t = drop (front_of Blank t) t
+started t = drop (prefix_len blank t) t
 
 -- how long the word is that a text begins with: a comma is a word by itself
 abbrev pub extent : List ℕ → ℕ
-extent t = cond (slice_index t 0 == 44) 1 (front_of Letter t)
+extent t = cond (slice_index t 0 == 44) 1 (prefix_len letter t)
 
 -- the first word of a text; an empty one where there is none
 unfoldable pub word : List ℕ → List ℕ

@@ -2,48 +2,28 @@
 ghost use Rattle.std.specs.Prelude.{◌≡◌};
 ghost use Rattle.script.specs.Lines.{go_of, on_of, any_of, arrive_of, find_of, changes_of, ask_of, begin_of, command_of};
 
-use crate::bytes::{Kind, all_of};
+use crate::bytes::all_digits;
 use crate::expected::Expected;
 use crate::keyword::{Keyword, keyword_of};
 use crate::line_words::Words;
 use crate::numbers::address;
 use crate::pieces::{BLANK, read_change};
 use crate::reading::{read_count, read_processor, read_seed};
-use routes::{Ask, Piece};
+use crate::request::Request;
+use routes::Ask;
 
 #[derive(Clone, Copy)]
 pub enum Command {
-    // A question or a change begins. Of a question the pieces are blank ones; of a change they are the first eight.
-    Begin {
-        cpu: u8,
-        ask: Ask,
-        pieces: [Piece; 8],
-    },
+    // A question or a change begins.
+    Begin { cpu: u8, request: Request },
     // Up to so many turns of a processor.
-    Go {
-        cpu: u8,
-        turns: u32,
-    },
+    Go { cpu: u8, turns: u32 },
     // Turns of a processor until it is told.
-    On {
-        cpu: u8,
-    },
+    On { cpu: u8 },
     // So many turns, which the seed chooses.
-    Any {
-        seed: u64,
-        turns: u32,
-    },
+    Any { seed: u64, turns: u32 },
     // So many stores of a processor arrive.
-    Arrive {
-        cpu: u8,
-        stores: u32,
-    },
-}
-
-#[derive(Clone, Copy)]
-pub enum Line {
-    Blank,
-    Command(Command),
+    Arrive { cpu: u8, stores: u32 },
 }
 
 fn go(mut words: Words, cpus: u8) -> Result<Command, Expected>
@@ -86,11 +66,11 @@ fn find(mut words: Words, cpu: u8) -> Result<Command, Expected>
 {
     let sought = address(words.next()).ok_or(Expected::Address)?;
     words.end(Expected::End)?;
-    Ok(Command::Begin {
-        cpu,
+    let request = Request {
         ask: Ask::Find(sought),
         pieces: [BLANK; 8],
-    })
+    };
+    Ok(Command::Begin { cpu, request })
 }
 
 fn change(text: &[u8], cpu: u8) -> Result<Command, Expected>
@@ -98,11 +78,11 @@ fn change(text: &[u8], cpu: u8) -> Result<Command, Expected>
 {
     let change = read_change(text)?;
     let pieces = change.pieces;
-    Ok(Command::Begin {
-        cpu,
+    let request = Request {
         ask: Ask::Change(change.count),
         pieces,
-    })
+    };
+    Ok(Command::Begin { cpu, request })
 }
 
 // What begins on a processor.
@@ -112,8 +92,7 @@ fn ask(words: Words, cpu: u8) -> Result<Command, Expected>
     let mut after = words;
     match keyword_of(after.next()) {
         Some(Keyword::Find) => find(after, cpu),
-        Some(Keyword::Put) => change(words.text(), cpu),
-        Some(Keyword::Take) => change(words.text(), cpu),
+        Some(Keyword::Put | Keyword::Take) => change(words.text(), cpu),
         _ => Err(Expected::Ask),
     }
 }
@@ -122,7 +101,7 @@ fn ask(words: Words, cpu: u8) -> Result<Command, Expected>
 fn begin(first: &[u8], words: Words, cpus: u8) -> Result<Command, Expected>
     ensures { result ≡ begin_of cpus first.now words.entry.rest.now }
 {
-    if !all_of(first, Kind::Digit(10)) {
+    if !all_digits(first, 10) {
         return Err(Expected::Command);
     }
     let cpu = read_processor(first, cpus)?;

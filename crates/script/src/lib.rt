@@ -10,9 +10,11 @@ mod line_words;
 mod numbers;
 mod pieces;
 mod reading;
+mod request;
 mod shown;
 
-pub use command::{Command, Line};
+pub use command::Command;
 pub use expected::Expected;
 pub use line::{line_end, read_line};
+pub use request::Request;
 pub use shown::reads_back;

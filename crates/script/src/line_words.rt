@@ -1,9 +1,11 @@
 // The words of a line, one after the other.
 ghost use Rattle.std.specs.Prelude.{◌≡◌, ◌≤◌, length};
+ghost use Rattle.std.specs.List.{prefix_len};
+ghost use Rattle.script.specs.Bytes.{blank, letter};
 ghost use Rattle.script.specs.Reading.{end_of};
 ghost use Rattle.script.specs.Words.{extent, word, past};
 
-use crate::bytes::{Kind, front_len};
+use crate::bytes::{is_blank, is_letter};
 use crate::expected::Expected;
 
 // What is left to read of a line.
@@ -12,15 +14,30 @@ pub struct Words<'a> {
     rest: &'a [u8],
 }
 
+// How many blanks a text begins with.
+fn blanks(text: &[u8]) -> usize
+    ensures value { result ≡ prefix_len blank text.now }
+    ensures bound { result ≤ length text.now }
+{
+    text.iter().take_while(|b| is_blank(**b)).count()
+}
+
+// How many letters it begins with.
+fn letters(text: &[u8]) -> usize
+    ensures value { result ≡ prefix_len letter text.now }
+    ensures bound { result ≤ length text.now }
+{
+    text.iter().take_while(|b| is_letter(**b)).count()
+}
+
 // How long the word is that a text begins with: a comma is a word by itself.
 fn word_len(text: &[u8]) -> usize
     ensures value { result ≡ extent text.now }
     ensures bound { result ≤ length text.now }
 {
-    if text.len() > 0 && text[0] == b',' {
-        1
-    } else {
-        front_len(text, Kind::Letter)
+    match text {
+        [b',', ..] => 1,
+        _ => letters(text),
     }
 }
 
@@ -36,7 +53,7 @@ impl<'a> Words<'a> {
         ensures word { result.now ≡ word self.old.rest.now }
         ensures rest { self.new.rest.now ≡ past self.old.rest.now }
     {
-        let (_, text) = self.rest.split_at(front_len(self.rest, Kind::Blank));
+        let (_, text) = self.rest.split_at(blanks(self.rest));
         let (word, rest) = text.split_at(word_len(text));
         self.rest = rest;
         word

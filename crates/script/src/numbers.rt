@@ -3,7 +3,7 @@ ghost use Rattle.std.specs.Prelude.{◌≡◌, ◌+◌, ◌*◌, ◌<◌};
 ghost use Rattle.std.specs.Str.Parse.{digits_value};
 ghost use Rattle.script.specs.Numbers.{small, decimal_of, address_of, length_of};
 
-use crate::bytes::{Kind, all_of, digit_value};
+use crate::bytes::{all_digits, digit_value};
 
 // Why a word is no number of 64 bits.
 #[derive(Clone, Copy)]
@@ -34,7 +34,7 @@ fn value(digits: &[u8], radix: u64) -> Option<u64>
 pub fn decimal(word: &[u8]) -> Result<u64, Misread>
     ensures { result ≡ decimal_of word.now }
 {
-    if !all_of(word, Kind::Digit(10)) {
+    if !all_digits(word, 10) {
         return Err(Misread::NotDigits);
     }
     value(word, 10).ok_or(Misread::TooLarge)
@@ -44,13 +44,10 @@ pub fn decimal(word: &[u8]) -> Result<u64, Misread>
 pub fn address(word: &[u8]) -> Option<u32>
     ensures { result ≡ address_of word.now }
 {
-    if word.len() != 8 || !all_of(word, Kind::Digit(16)) {
+    if word.len() != 8 || !all_digits(word, 16) {
         return None;
     }
-    match value(word, 16) {
-        Some(x) => Some(x as u32),
-        None => None,
-    }
+    Some(value(word, 16)? as u32)
 }
 
 // The length of a prefix: 255 stands for all that are larger.

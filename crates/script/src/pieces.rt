@@ -1,9 +1,7 @@
 // The pieces of a change.
-ghost use Rattle.std.specs.Prelude.{◌≡◌, ◌<◌, ◌∷◌, length, IfSome, slice_set};
-ghost use Rattle.std.specs.Option.{option_map};
-ghost use Rattle.script.specs.Pieces.{parts, parts_after, put_of, take_of, piece_of, no_pieces, with_piece, change_of};
+ghost use Rattle.std.specs.Prelude.{◌≡◌, slice_set};
+ghost use Rattle.script.specs.Pieces.{put_of, take_of, piece_of, no_pieces, with_piece, change_of};
 
-use crate::bytes::{Kind, front_len};
 use crate::expected::Expected;
 use crate::keyword::{Keyword, keyword_of};
 use crate::line_words::Words;
@@ -65,19 +63,6 @@ fn read_piece(text: &[u8]) -> Result<Piece, Expected>
     }
 }
 
-// The part of a text before its first comma, and what follows the comma if there is one.
-fn split_part(text: &[u8]) -> (&[u8], Option<&[u8]>)
-    ensures parts { parts text.now ≡ result.0.now ∷ parts_after (option_map (λ x. x.now) result.1) }
-    ensures shorter { IfSome result.1 (λ x. length x.now < length text.now) }
-{
-    let (part, rest) = text.split_at(front_len(text, Kind::Not(b',')));
-    if rest.is_empty() {
-        return (part, None);
-    }
-    let (_, after) = rest.split_at(1);
-    (part, Some(after))
-}
-
 // A piece goes into its place, if there is one.
 fn put_at(pieces: &mut [Piece], at: usize, piece: Piece)
     ensures { pieces.new ≡ slice_set pieces.old at piece }
@@ -111,11 +96,8 @@ pub fn read_change(text: &[u8]) -> Result<Change, Expected>
     ensures { result ≡ change_of text.now }
 {
     let mut change = Change::new();
-    let mut rest = Some(text);
-    while let Some(line) = rest {
-        let (part, after) = split_part(line);
+    for part in text.split(|b| *b == b',') {
         change.keep(read_piece(part)?);
-        rest = after;
     }
     Ok(change)
 }

@@ -25,38 +25,30 @@ pub fn read_processor(word: &[u8], cpus: u8) -> Result<u8, Expected>
 pub fn read_count(word: &[u8]) -> Result<u32, Expected>
     ensures { result ≡ count_of word.now }
 {
-    match decimal(word) {
-        Ok(n) if n < 0x1_0000_0000 => Ok(n as u32),
-        _ => Err(Expected::Count),
-    }
+    let count = decimal(word).map_err(|_| Expected::Count)?;
+    u32::try_from(count).map_err(|_| Expected::Count)
 }
 
 pub fn read_seed(word: &[u8]) -> Result<u64, Expected>
     ensures { result ≡ seed_of word.now }
 {
-    match decimal(word) {
-        Ok(n) => Ok(n),
-        Err(_) => Err(Expected::Seed),
-    }
+    decimal(word).map_err(|_| Expected::Seed)
 }
 
 fn prefix_from(bits: Option<u32>, len: Option<u8>) -> Result<Prefix, Expected>
     ensures { result ≡ prefixed bits len }
 {
-    match (bits, len) {
-        (Some(bits), Some(len)) => Ok(Prefix { bits, len }),
-        _ => Err(Expected::Prefix),
-    }
+    bits.zip(len)
+        .map(|(bits, len)| Prefix { bits, len })
+        .ok_or(Expected::Prefix)
 }
 
 // An address, a slash and a length.
 pub fn read_prefix(word: &[u8]) -> Result<Prefix, Expected>
     ensures { result ≡ prefix_of word.now }
 {
-    if word.len() < 9 || word[8] != b'/' {
+    let Some((bits, [b'/', len @ ..])) = word.split_at_checked(8) else {
         return Err(Expected::Prefix);
-    }
-    let (bits, _) = word.split_at(8);
-    let (_, len) = word.split_at(9);
+    };
     prefix_from(address(bits), length(len))
 }

@@ -8,11 +8,11 @@ use Rattle.std.proofs.lemmas.Str.Parse.{digit_from_value}
 use Rattle.std.proofs.lemmas.Bool.{lt-ltb, eq-eqb, and_from}
 use Rattle.std.proofs.lemmas.Bool.Decides.{nat_tests}
 use Rattle.std.specs.Str.Parse.{AllDigits, digits_value}
-use Rattle.std.specs.Char.{digit_value, digit_char}
-use Rattle.script.specs.declared.bytes.Kind.TheVariants.{Digit}
+use Rattle.std.specs.Char.{digit_value, digit_char, is_digit}
+use Rattle.std.specs.List.{list_all}
 use Rattle.script.specs.declared.expected.Expected.{Expected}
 use Rattle.script.specs.declared.expected.Expected.TheVariants as expected
-use Rattle.script.specs.Bytes.{front_of, all_of}
+use Rattle.script.specs.Bytes.{all_digits}
 use Rattle.script.specs.Keywords.{keyword_of}
 use Rattle.script.specs.Lines.{passed}
 use Rattle.script.specs.Numbers.{address_of, length_of}
@@ -20,15 +20,13 @@ use Rattle.script.specs.Reading.{below, prefixed, prefix_of}
 use Rattle.script.specs.Shown.{hexadecimal, shown_prefix}
 use Rattle.script.proofs.Back.Plain.{Plain}
 
--- Digits are digits to the last.
-front_digits : (r : ℕ) (t : List ℕ) → AllDigits r t → front_of (Digit r) t ≡ length t
-front_digits r [] h = refl
-front_digits r (c ∷ cs) h =
-    let is = lt-ltb (digit_value c) r h.0 in
-    rw is (omega (arith, front_digits r cs h.1))
+-- Each of some digits is one.
+each_digit : (r : ℕ) (t : List ℕ) → AllDigits r t → list_all (λ b. is_digit b r) t ≡ true
+each_digit r [] h = refl
+each_digit r (c ∷ cs) h = and_from _ _ (lt-ltb (digit_value c) r h.0) (each_digit r cs h.1)
 
-all_digits : (r : ℕ) (t : List ℕ) → 0 < length t → AllDigits r t → all_of (Digit r) t ≡ true
-all_digits r t some h = and_from _ _ (lt-ltb _ _ some) (eq-eqb _ _ (front_digits r t h))
+some_digits : (r : ℕ) (t : List ℕ) → 0 < length t → AllDigits r t → all_digits r t ≡ true
+some_digits r t some h = and_from _ _ (lt-ltb _ _ some) (each_digit r t h)
 
 -- Decimal digits stand behind the comma.
 digits_high : (t : List ℕ) → AllDigits 10 t → All (λ b. 44 < b) t
@@ -45,8 +43,8 @@ module _ (n : ℕ) (fits : n < 2 ^ 64) where
   pub decimal_plain : Plain (decimal n)
   decimal_plain = record { some = some; high = digits_high (decimal n) digits }
 
-  pub decimal_digits : all_of (Digit 10) (decimal n) ≡ true
-  decimal_digits = all_digits 10 (decimal n) some digits
+  pub decimal_digits : all_digits 10 (decimal n) ≡ true
+  decimal_digits = some_digits 10 (decimal n) some digits
 
   -- A number below the bound is read back.
   pub decimal_below : (bound : ℕ) (e : Expected) → n < bound → below bound e (decimal n) ≡ Ok n
@@ -98,7 +96,7 @@ hexadecimal_plain k n h = record { some = omega (arith, length-hexadecimal k n);
 pub address_back : (a : ℕ) → a < 2 ^ 32 → address_of (hexadecimal 8 a) ≡ Some a
 address_back a h =
     let long = length-hexadecimal 8 a in
-    rw (all_digits 16 (hexadecimal 8 a) (omega arith) (digits_hexadecimal 8 a).0, eq-eqb _ _ long, value_hexadecimal 8 a h) refl
+    rw (some_digits 16 (hexadecimal 8 a) (omega arith) (digits_hexadecimal 8 a).0, eq-eqb _ _ long, value_hexadecimal 8 a h) refl
 
 module _ (bits len : ℕ) (b : bits < 2 ^ 32) (l : len < 256) where
   -- A prefix is one word.

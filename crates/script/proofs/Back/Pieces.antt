@@ -3,11 +3,11 @@ use Rattle.std.proofs.Common.{◌≡◌, ℕ, suc, ◌+◌, ◌-◌, ◌^◌, �
 use Rattle.std.proofs.lemmas.List.Elements.{All-nil, All-cons, All-head, All-tail, All-from_recursion}
 use Rattle.std.proofs.lemmas.List.{length_push, length-take-le, set_at, take-append-drop}
 use Rattle.std.proofs.lemmas.Bool.{ne_eqb}
+use Rattle.std.specs.List.{prefix_len}
 use Rattle.routes.specs.declared.Piece.{Piece}
-use Rattle.script.specs.declared.bytes.Kind.TheVariants.{Letter}
 use Rattle.script.specs.declared.expected.Expected.TheVariants as expected
 use Rattle.script.specs.declared.pieces.Change.{Change}
-use Rattle.script.specs.Bytes.{front_of}
+use Rattle.script.specs.Bytes.{letter}
 use Rattle.script.specs.Lines.{ask_of, changes_of}
 use Rattle.script.specs.Pieces.{parts, piece_of, blank_piece, no_pieces, with_piece, gathered, change_of}
 use Rattle.script.specs.Reading.{count_of, prefix_of}
@@ -48,7 +48,7 @@ module _ (p : Piece) (f : FitsPiece p) where
 
 -- A text without commas is a part by itself.
 part_back : (t : List ℕ) (ts : List (List ℕ)) → All (λ b. eqb b 44 ≡ false) t → All (All (λ b. eqb b 44 ≡ false)) ts → parts (t ++ after 44 ts) ≡ t ∷ ts
-unfolding parts after
+unfolding after
 part_back [] [] h hs = refl
 part_back [] (u ∷ ts) h hs =
     let P : ℕ → Type 0 = λ b. eqb b 44 ≡ false in
@@ -119,11 +119,11 @@ pieces_back n ps f =
     change_back (take n ps) (8 - n) (omega (arith, f.some)) (omega (arith, f.few)) f.each ∙ (λ i. Ok (record { count = long i; pieces = same i }))
 
 -- A piece is no part of the word before it.
-pub piece_stops : (p : Piece) (t : List ℕ) → front_of Letter (shown_piece p ++ t) ≡ 0
+pub piece_stops : (p : Piece) (t : List ℕ) → prefix_len letter (shown_piece p ++ t) ≡ 0
 unfolding after
 piece_stops p t = by p.puts
   where
-    by : (b : Bool) → front_of Letter (shown_piece (record { puts = b; len = p.len; bits = p.bits; tells = p.tells }) ++ t) ≡ 0
+    by : (b : Bool) → prefix_len letter (shown_piece (record { puts = b; len = p.len; bits = p.bits; tells = p.tells }) ++ t) ≡ 0
     by true = refl
     by false = refl
 

@@ -3,8 +3,8 @@ use Rattle.std.proofs.Common.{◌≡◌, ℕ, ◌+◌, ◌<◌, true, false, Lis
 use Rattle.std.proofs.lemmas.List.Elements.{All-nil, All-cons, All-head, All-tail, All-append, All-weaker}
 use Rattle.std.proofs.lemmas.List.{take_at, drop_at}
 use Rattle.std.proofs.lemmas.Bool.Decides.{nat_tests}
-use Rattle.script.specs.declared.bytes.Kind.TheVariants.{Blank, Letter}
-use Rattle.script.specs.Bytes.{is_of, front_of}
+use Rattle.std.specs.List.{prefix_len}
+use Rattle.script.specs.Bytes.{blank, letter}
 use Rattle.script.specs.Shown.{after}
 use Rattle.script.specs.Words.{word, past, extent}
 
@@ -13,20 +13,20 @@ pub record Plain (w : List ℕ) : Type 0 where
   pub high : All (λ b. 44 < b) w
 
 -- Such bytes are letters of a word.
-letters : (w t : List ℕ) → All (λ b. 44 < b) w → front_of Letter (w ++ t) ≡ length w + front_of Letter t
+letters : (w t : List ℕ) → All (λ b. 44 < b) w → prefix_len letter (w ++ t) ≡ length w + prefix_len letter t
 letters [] t h = omega arith
 letters (c ∷ cs) t h =
-    let is : is_of Letter c ≡ true = (let high = All-head (λ b. 44 < b) c cs h in grind (arith, nat_tests)) in
+    let is : letter c ≡ true = (let high = All-head (λ b. 44 < b) c cs h in grind (arith, nat_tests)) in
     rw is (omega (arith, letters cs t (All-tail (λ b. 44 < b) c cs h)))
 
 -- A word with a blank, a comma or nothing behind it is read, and what follows is left.
-pub reads : (w t : List ℕ) → Plain w → front_of Letter t ≡ 0 → (word (w ++ t) ≡ w) × (past (w ++ t) ≡ t)
+pub reads : (w t : List ℕ) → Plain w → prefix_len letter t ≡ 0 → (word (w ++ t) ≡ w) × (past (w ++ t) ≡ t)
 unfolding word past
 reads [] t p ends = absurd (omega (arith, p.some))
 reads (c ∷ cs) t p ends =
     let w = c ∷ cs in
     let high = All-head (λ b. 44 < b) c cs p.high in
-    let solid : is_of Blank c ≡ false = grind (arith, nat_tests) in
+    let solid : blank c ≡ false = grind (arith, nat_tests) in
     let long : extent (w ++ t) ≡ length w = (let front = letters w t p.high in grind (arith, nat_tests)) in
     rw (solid, long) (take_at w t _ refl, drop_at w t _ refl)
 
@@ -36,11 +36,11 @@ unfolding word past
 reads_blank t = rw one-add (refl, refl)
 
 -- The same of a word that follows another.
-pub reads_next : (w t : List ℕ) → Plain w → front_of Letter t ≡ 0 → (word (32 ∷ (w ++ t)) ≡ w) × (past (32 ∷ (w ++ t)) ≡ t)
+pub reads_next : (w t : List ℕ) → Plain w → prefix_len letter t ≡ 0 → (word (32 ∷ (w ++ t)) ≡ w) × (past (32 ∷ (w ++ t)) ≡ t)
 reads_next w t p ends = let r = reads w t p ends in let b = reads_blank (w ++ t) in (b.0 ∙ r.0, b.1 ∙ r.1)
 
 -- What begins with a blank is no part of the word before it.
-pub stops : (ws : List (List ℕ)) → front_of Letter (after 32 ws) ≡ 0
+pub stops : (ws : List (List ℕ)) → prefix_len letter (after 32 ws) ≡ 0
 unfolding after
 stops [] = refl
 stops (w ∷ ws) = refl

@@ -4,11 +4,11 @@ use Rattle.script.proofs.numbers.address.Goals as goal
 
 pub overflow_cast-result : goal.overflow_cast-result
 overflow_cast-result c =
-    let fits = address_fits c.args.word.now (sym c.if-not-all_of.ensures) c.if-word-ne8.false in
-    let is = small_some _ _ c.in-Some.ensures in
+    let fits = address_fits c.args.word.now (sym c.if-not-all_digits.ensures) c.if-word-ne8.false in
+    let is = small_some _ _ c.in_ok-value.ensures in
     omega arith
 
-pub returns-in-None : goal.returns-in-None
-returns-in-None c =
-    let fits = address_fits c.args.word.now (sym c.if-not-all_of.ensures) c.if-word-ne8.false in
-    absurd (omega (arith, small_none _ c.in-None.ensures))
+pub returns-in_err-value : goal.returns-in_err-value
+returns-in_err-value c =
+    let fits = address_fits c.args.word.now (sym c.if-not-all_digits.ensures) c.if-word-ne8.false in
+    absurd (omega (arith, small_none _ c.in_err-value.ensures))

@@ -45,11 +45,7 @@ pub fn begin_update(size: u32) -> Work
 {
     let job = Job {
         size,
-        need: 0,
-        got: 0,
-        used: 0,
-        retired: 0,
-        root: 0,
+        ..Job::default()
     };
     if size == 0 || size > 8 {
         Work::Update(job, Phase::Refuse)

@@ -3,13 +3,13 @@ ghost use Rattle.std.specs.Prelude.{◌≡◌, ◌+◌, ◌<◌, ◌≤◌};
 ghost use Rattle.routes.specs.declared.update.build.Build.TheVariants.{Read as AtRead, Edit as AtEdit, Write as AtWrite};
 ghost use Rattle.routes.specs.Machine.Builds.{BuildOk, BuildReady, BuildMoved, build_after, build_words, starting as starting_of, after_read, after_edit, after_write};
 
-use super::super::Memory;
-use super::super::access::{load, store};
-use super::super::header::{HEADER, ROOT};
 use super::check::prefix_at;
 use super::job::Job;
 use super::publish::Publish;
 use super::{Phase, UpdateNext};
+use crate::Memory;
+use crate::access::{load, store};
+use crate::header::{HEADER, ROOT};
 use own::{OwnWords, edit_piece, fresh_at, image_at, image_word, note_path, note_word};
 use std::ops::ControlFlow::Continue;
 use words::{block_of, nib};

@@ -1,4 +1,4 @@
-// The blocks that a change has got, and those that it retires.
+// The blocks that a change has got, and those that it retires: two rows, each with functions of its own name, so that no call can take one row for the other.
 ghost use Rattle.std.specs.Prelude.{◌≡◌, ◌+◌, ◌^◌, ◌<◌, ◌≤◌, length, slice_set};
 ghost use Rattle.words.specs.Slots.{child_of};
 ghost use Rattle.own.specs.Layout.{words_of, fresh_at, retired_at};

@@ -7,23 +7,14 @@ ghost use Rattle.own.specs.Edits.{blank as blank_words, blanked, route_set, poin
 use super::image::is_empty;
 use super::layout::{FRESH, IMAGE, OwnWords, image_at};
 use super::piece::{PieceWords, piece_at};
-use words::{nib, route_place, route_word};
-
-// The low 32 bits of a word.
-fn low_half(x: u64) -> u32
-    ensures { result ≡ x % 2 ^ 32 }
-{
-    (x % 0x1_0000_0000) as u32
-}
+use words::{low_half, nib, route_place, route_word};
 
 // So many words from start on become 0.
 fn blank(own: &mut OwnWords, start: usize, many: usize)
     requires { start + many ≤ 4096 }
     ensures { own.new ≡ blank_words own.old start many }
 {
-    for i in 0..many {
-        own[start + i] = 0;
-    }
+    own[start..start + many].fill(0);
 }
 
 // The images of the levels from have to deep, of nodes that do not exist, become noughts.
@@ -81,6 +72,7 @@ fn point_all(own: &mut OwnWords, a: u32, first: u32, deep: u8) -> u32
 }
 
 // What piece k makes of the images on its way, of which so many were read; its new nodes take the blocks from number first on. How many levels are left.
+#[tactic(auto, unfolding(crate::specs::Edits::prepared, crate::specs::Edits::edited, crate::specs::Edits::levels_edited))]
 pub fn edit_piece(own: &mut OwnWords, k: u32, have: u8, first: u32) -> u32
     requires own { (k < 8) × ((have ≤ 9) × (first ≤ 72)) }
     requires short { (piece_of (words_of own.old) k).len ≤ 32 }

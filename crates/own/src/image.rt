@@ -28,6 +28,7 @@ fn slot_word(own: &OwnWords, d: u8, n: u32) -> u64
 }
 
 // Word i of the node that the image of level d is to become.
+#[tactic(auto, unfolding(crate::specs::Images::packed))]
 pub fn image_word(own: &OwnWords, d: u8, i: u32) -> u64
     requires { (d ≤ 8) × (i < 31) }
     ensures { result ≡ image_word (words_of own.now) d i }
@@ -44,9 +45,5 @@ pub fn is_empty(own: &OwnWords, d: u8) -> bool
     requires { d ≤ 8 }
     ensures { result ≡ bare (words_of own.now) d }
 {
-    let mut empty = true;
-    for i in 0..31 {
-        empty = empty & (own[image_at(d, i)] == 0);
-    }
-    empty
+    own[image_at(d, 0)..image_at(d, 31)].iter().all(|x| *x == 0)
 }

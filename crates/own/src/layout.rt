@@ -24,7 +24,7 @@ pub fn piece_word_at(k: u32, i: u32) -> usize
     PIECES + 4 * k as usize + i as usize
 }
 
-// Where word i of the image of level d is.
+// Where word i of the image of level d is. A level is a plain number, as is the number of a piece: they are counted up and down and multiplied.
 pub fn image_at(d: u8, i: u32) -> usize
     requires { (d ≤ 8) × (i < 32) }
     ensures { result ≡ image_at d i }

@@ -23,6 +23,7 @@ pub enum Earlier {
 }
 
 // Writes a piece as number k.
+#[tactic(auto, unfolding(crate::specs::Pieces::piece_written))]
 pub fn write_piece(own: &mut OwnWords, k: u32, piece: PieceWords)
     requires { k < 8 }
     ensures { own.new ≡ piece_written own.old k piece }

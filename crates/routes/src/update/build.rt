@@ -117,7 +117,7 @@ fn after_edit(job: Job, k: u32, have: u8, levels: u32, root: u32) -> UpdateNext
     let first = job.used;
     let job = Job {
         used: first + levels,
-        retired: job.retired + have as u32,
+        retired: job.retired + u32::from(have),
         root,
         ..job
     };
@@ -157,7 +157,7 @@ fn after_write(job: Job, k: u32, first: u32, level: u8, word: u32) -> UpdateNext
                 word: word + 1,
             }),
         ))
-    } else if first + level as u32 + 1 < job.used {
+    } else if first + u32::from(level) + 1 < job.used {
         Continue((
             job,
             Phase::Build(Build::Write {
@@ -191,7 +191,7 @@ fn write<M: Memory>(
     store(
         w,
         p,
-        fresh_at(own, first + level as u32),
+        fresh_at(own, first + u32::from(level)),
         word,
         image_word(own, level, word),
     );

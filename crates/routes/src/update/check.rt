@@ -32,7 +32,7 @@ fn passed(job: Job, k: u32, len: u8) -> UpdateNext
     ensures { result ≡ passed_of job k len }
 {
     let job = Job {
-        need: job.need + len as u32 / 4 + 1,
+        need: job.need + u32::from(len) / 4 + 1,
         ..job
     };
     if k + 1 < job.size {

@@ -1,4 +1,5 @@
 // What a turn asks of the memory. Each function asks for one thing.
+// The memory and the processor's number stay two parameters: of one struct behind `&mut` each contract would also have to say that the number stays.
 ghost use Rattle.std.specs.Prelude.{◌≡◌};
 ghost use Rattle.routes.specs.declared.act.Act.TheVariants.{Load, Store, Fence, Swap, Release};
 ghost use Rattle.routes.specs.Machine.Acts.{MayDo, Did};

@@ -16,13 +16,13 @@ use Rattle.routes.specs.Keys.Keys.{way_of}
 use Rattle.routes.specs.Tree.Edits.{edit_of}
 use Rattle.routes.specs.Tree.Trees.{Tree, depth}
 use Rattle.routes.specs.Invariant.Building.{Writes, BuildFacts, PublishFacts}
-use Rattle.routes.specs.Invariant.Ghosts.{Ghost, calm}
+use Rattle.routes.specs.Invariant.Ghosts.{Ghost}
 use Rattle.routes.specs.Invariant.Writers.{Hall, PhaseFacts}
 use Rattle.routes.proofs.Build.Stages.{stage_next, stage_end}
 use Rattle.routes.proofs.Build.Writes.{write_word, write_level}
 use Rattle.routes.proofs.Invariant.BuildStarts.{starts}
 use Rattle.routes.proofs.Invariant.GoingOn.{GoesOn, on_build, on_publish, on_if}
-use Rattle.routes.proofs.Invariant.Staging.{need_few}
+use Rattle.routes.proofs.Invariant.Needs.{need_few}
 use Rattle.std.specs.declared.ops.ControlFlow.TheVariants.{Continue}
 
 module _ (v : ℕ → ℕ → ℕ) (hall : Hall) (g : Ghost) (o : List ℕ) (rs : List Route) (n : Now) (j : Job) (k first d i : ℕ) (s : Writes v g o rs n j k first d i) where
@@ -114,7 +114,7 @@ module _ (v : ℕ → ℕ → ℕ) (hall : Hall) (g : Ghost) (o : List ℕ) (rs 
 
       last_piece : ltb i 30 ≡ false → ltb (first + d + 1) j.used ≡ false → ltb (k + 1) j.size ≡ false → GoesOn v' hall g o rs n (Continue (j, InPublish FenceNodes))
       last_piece e z l =
-          let r = piece_done e z in let few = need_few g o rs n j calm s.ps s.qs s.equipped in
+          let r = piece_done e z in let few = need_few s.equipped.sure in
           let q : length s.ps ≤ suc k = omega (arith, ltb-false (k + 1) j.size l, s.equipped.sure.pending.length') in
           let f = subst (λ z. Stage v' (words_of o) g.tree new j.need j.used j.retired j.root r.0 s.qs z) (drop_of_length-le s.ps q) r.1 in
           on_publish v' hall g o rs n j FenceNodes (record {

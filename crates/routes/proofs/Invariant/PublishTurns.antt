@@ -26,7 +26,7 @@ use Rattle.routes.proofs.Invariant.Fencing.{fence_turn, turn_later}
 use Rattle.routes.proofs.Invariant.Holding.{holder_facts, holder_room, load_turn}
 use Rattle.routes.proofs.Invariant.Rowing.{rowed_turn}
 use Rattle.routes.proofs.Invariant.Sights.{rowed}
-use Rattle.routes.proofs.Invariant.Staging.{need_few}
+use Rattle.routes.proofs.Invariant.Needs.{need_few}
 use Rattle.routes.proofs.Invariant.Steps.{lock_of, Turn}
 use Rattle.routes.proofs.Invariant.StoreKinds.{root_store}
 use Rattle.routes.proofs.Invariant.Storing.{store_turn}
@@ -54,7 +54,7 @@ module _ (v : ℕ → ℕ → ℕ) (hall : Hall) (g : Ghost) (o : List ℕ) (rs 
       let e = f.equipped in (
         e.whole,
         omega (arith, f.spent, e.all),
-        omega (arith, need_few g o rs n j still f.ps f.qs e, e.all),
+        omega (arith, need_few e.sure, e.all),
         f.few,
         inl (record { ps = f.ps; qs = f.qs; W = f.W; row = refl; fresh = e.has.fresh; awaits = e.awaits; sure = e.sure }),
       )

@@ -28,7 +28,7 @@ use Rattle.routes.proofs.Late.View.{view_open, open_low}
 use Rattle.routes.proofs.Invariant.Fencing.{fence_turn, turn_later}
 use Rattle.routes.proofs.Invariant.GoingOn.{GoesOn, on_retire}
 use Rattle.routes.proofs.Invariant.Holding.{holder_facts, holder_room}
-use Rattle.routes.proofs.Invariant.Joining.{last_of}
+use Rattle.routes.proofs.Invariant.Chains.{last_of}
 use Rattle.routes.proofs.Invariant.RetireFollows.{epoch_loaded, epoch_set, at_set, next_set, tail_loaded, loose_joined, tail_set, retire_fenced}
 use Rattle.routes.proofs.Invariant.RetireReady.{replaced_loose, replaced_in}
 use Rattle.routes.proofs.Invariant.Rowing.{rowed_turn}

@@ -3,13 +3,13 @@ ghost use Rattle.std.specs.Prelude.{◌≡◌, ◌+◌, ◌<◌, ◌≤◌};
 ghost use Rattle.routes.specs.declared.update.build.Build.TheVariants.{Read as AtRead, Edit as AtEdit, Write as AtWrite};
 ghost use Rattle.routes.specs.Machine.Builds.{BuildOk, BuildReady, BuildMoved, build_after, build_words, starting as starting_of, after_read, after_edit, after_write};
 
-use super::super::Memory;
-use super::super::access::{load, store};
-use super::super::header::{HEADER, ROOT};
 use super::check::prefix_at;
 use super::job::Job;
 use super::publish::Publish;
 use super::{Phase, UpdateNext};
+use crate::Memory;
+use crate::access::{load, store};
+use crate::header::{HEADER, ROOT};
 use own::{OwnWords, edit_piece, fresh_at, image_at, image_word, note_path, note_word};
 use std::ops::ControlFlow::Continue;
 use words::{block_of, nib};
@@ -117,7 +117,7 @@ fn after_edit(job: Job, k: u32, have: u8, levels: u32, root: u32) -> UpdateNext
     let first = job.used;
     let job = Job {
         used: first + levels,
-        retired: job.retired + have as u32,
+        retired: job.retired + u32::from(have),
         root,
         ..job
     };
@@ -157,7 +157,7 @@ fn after_write(job: Job, k: u32, first: u32, level: u8, word: u32) -> UpdateNext
                 word: word + 1,
             }),
         ))
-    } else if first + level as u32 + 1 < job.used {
+    } else if first + u32::from(level) + 1 < job.used {
         Continue((
             job,
             Phase::Build(Build::Write {
@@ -191,7 +191,7 @@ fn write<M: Memory>(
     store(
         w,
         p,
-        fresh_at(own, first + level as u32),
+        fresh_at(own, first + u32::from(level)),
         word,
         image_word(own, level, word),
     );

@@ -3,15 +3,15 @@ ghost use Rattle.std.specs.Prelude.{◌≡◌, ◌<◌, ◌≤◌};
 ghost use Rattle.routes.specs.declared.update.check.Check.TheVariants.{Root as AtRoot, Slot as AtSlot, Route as AtRoute};
 ghost use Rattle.routes.specs.Machine.Checks.{AtPiece, CleanIn, CheckReady, CheckMoved, piece_in, passed as passed_of, looked_at, entered, found_route, decided as decided_of};
 
-use super::super::access::load;
-use super::super::header::{HEADER, ROOT, unlock};
-use super::super::node::ROUTES;
-use super::super::prefix::Prefix;
-use super::super::refusal::{Refusal, make_prefix};
-use super::super::{Answer, Memory};
 use super::job::Job;
 use super::obtain::Obtain;
 use super::{Phase, UpdateNext};
+use crate::access::load;
+use crate::header::{HEADER, ROOT, unlock};
+use crate::node::ROUTES;
+use crate::prefix::Prefix;
+use crate::refusal::{Refusal, make_prefix};
+use crate::{Answer, Memory};
 use own::{Earlier, OwnWords, last_before, piece_at};
 use std::ops::ControlFlow::{Break, Continue};
 use words::{block_of, nib, route_place};
@@ -32,7 +32,7 @@ fn passed(job: Job, k: u32, len: u8) -> UpdateNext
     ensures { result ≡ passed_of job k len }
 {
     let job = Job {
-        need: job.need + len as u32 / 4 + 1,
+        need: job.need + u32::from(len) / 4 + 1,
         ..job
     };
     if k + 1 < job.size {

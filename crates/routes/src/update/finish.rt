@@ -2,11 +2,11 @@
 ghost use Rattle.std.specs.Prelude.{◌≡◌};
 ghost use Rattle.routes.specs.Machine.Finishes.{FinishReady, FinishMoved, finishing as finishing_of};
 
-use super::super::access::give_back;
-use super::super::header::unlock;
-use super::super::{Answer, Memory};
 use super::job::Job;
 use super::{Phase, UpdateNext};
+use crate::access::give_back;
+use crate::header::unlock;
+use crate::{Answer, Memory};
 use own::{OwnWords, fresh_at};
 use std::ops::ControlFlow::{Break, Continue};
 

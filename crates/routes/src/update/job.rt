@@ -1,5 +1,5 @@
 // What an update has in hand all the way.
-#[derive(Clone, Copy)]
+#[derive(Clone, Copy, Default)]
 pub struct Job {
     // how many pieces it has
     pub size: u32,

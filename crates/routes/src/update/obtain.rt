@@ -3,14 +3,14 @@ ghost use Rattle.std.specs.Prelude.{◌≡◌};
 ghost use Rattle.routes.specs.declared.update.obtain.Obtain.TheVariants.{Get as AtGet, Undo as AtUndo};
 ghost use Rattle.routes.specs.Machine.Obtains.{ObtainReady, ObtainMoved, gathering as gathering_of, undoing as undoing_of};
 
-use super::super::access::give_back;
-use super::super::header::unlock;
-use super::super::pool::obtain;
-use super::super::{Answer, Memory};
 use super::build::Build;
 use super::job::Job;
 use super::recycle::Recycle;
 use super::{Phase, UpdateNext};
+use crate::access::give_back;
+use crate::header::unlock;
+use crate::pool::obtain;
+use crate::{Answer, Memory};
 use own::{OwnWords, fresh_at};
 use std::ops::ControlFlow::{Break, Continue};
 

@@ -3,12 +3,12 @@ ghost use Rattle.std.specs.Prelude.{◌≡◌};
 ghost use Rattle.routes.specs.Machine.Acts.{MayDo};
 ghost use Rattle.routes.specs.Machine.Publishes.{PublishMoved, publish_act};
 
-use super::super::Memory;
-use super::super::access::{fence, store};
-use super::super::header::{HEADER, ROOT};
 use super::Phase;
 use super::job::Job;
 use super::retire::Retire;
+use crate::Memory;
+use crate::access::{fence, store};
+use crate::header::{HEADER, ROOT};
 
 #[derive(Clone, Copy)]
 pub enum Publish {

@@ -4,14 +4,14 @@ ghost use Rattle.routes.specs.declared.act.Act.TheVariants.{Release};
 ghost use Rattle.routes.specs.Machine.Acts.{MayDo, Did};
 ghost use Rattle.routes.specs.Machine.Reclaims.{ReclaimMoved, reclaim_act, released as released_of, unlinked as unlinked_of};
 
-use super::super::Memory;
-use super::super::access::{give_back, load, store};
-use super::super::header::{HEADER, LIMBO_HEAD, LIMBO_TAIL};
-use super::super::node::{NEXT_RETIRED, RETIRED_AT};
 use super::Phase;
 use super::finish::finishing;
 use super::job::Job;
 use super::scan::GracePeriod;
+use crate::Memory;
+use crate::access::{give_back, load, store};
+use crate::header::{HEADER, LIMBO_HEAD, LIMBO_TAIL};
+use crate::node::{NEXT_RETIRED, RETIRED_AT};
 use words::block_of;
 
 // One update gives back at most so many, more than it can retire.

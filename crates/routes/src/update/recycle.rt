@@ -4,14 +4,14 @@ ghost use Rattle.own.specs.Layout.{fresh_at};
 ghost use Rattle.routes.specs.declared.update.recycle.Recycle.TheVariants.{SetHead as AtSetHead};
 ghost use Rattle.routes.specs.Machine.Recycles.{RecycleReady, RecycleMoved, oldest as oldest_of, unlinked as unlinked_of};
 
-use super::super::Memory;
-use super::super::access::{load, store};
-use super::super::header::{HEADER, LIMBO_HEAD, LIMBO_TAIL};
-use super::super::node::{NEXT_RETIRED, RETIRED_AT};
 use super::job::Job;
 use super::obtain::{gathering, undoing};
 use super::scan::{GracePeriod, Scan};
 use super::{Phase, UpdateNext};
+use crate::Memory;
+use crate::access::{load, store};
+use crate::header::{HEADER, LIMBO_HEAD, LIMBO_TAIL};
+use crate::node::{NEXT_RETIRED, RETIRED_AT};
 use own::{OwnWords, keep_fresh};
 use std::ops::ControlFlow::Continue;
 use words::block_of;

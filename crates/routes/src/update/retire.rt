@@ -3,13 +3,13 @@ ghost use Rattle.std.specs.Prelude.{◌≡◌, ◌<◌};
 ghost use Rattle.routes.specs.declared.update.retire.Retire.TheVariants.{SetNext as AtSetNext};
 ghost use Rattle.routes.specs.Machine.Retires.{RetireReady, RetireMoved, follower_in, after_epoch, after_next, after_tail};
 
-use super::super::Memory;
-use super::super::access::{fence, load, store};
-use super::super::header::{EPOCH, HEADER, LIMBO_HEAD, LIMBO_TAIL};
-use super::super::node::{NEXT_RETIRED, RETIRED_AT};
 use super::Phase;
 use super::job::Job;
 use super::scan::Scan;
+use crate::Memory;
+use crate::access::{fence, load, store};
+use crate::header::{EPOCH, HEADER, LIMBO_HEAD, LIMBO_TAIL};
+use crate::node::{NEXT_RETIRED, RETIRED_AT};
 use own::{OwnWords, retired_at};
 use words::block_of;
 

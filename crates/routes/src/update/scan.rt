@@ -3,12 +3,12 @@ ghost use Rattle.std.specs.Prelude.{◌≡◌, ◌+◌, ◌^◌, ◌<◌, nat_lt
 ghost use Rattle.routes.specs.Machine.Acts.{MayDo};
 ghost use Rattle.routes.specs.Machine.Scans.{ScanOk, ScanMoved, scan_act, announced_before, passed_for, passed_with};
 
-use super::super::Memory;
-use super::super::access::load;
-use super::super::header::{ACTIVE, HEADER};
 use super::Phase;
 use super::reclaim::{MOST_RELEASED, Reclaim};
 use super::recycle::Recycle;
+use crate::Memory;
+use crate::access::load;
+use crate::header::{ACTIVE, HEADER};
 
 // What a finished scan has shown: nobody is reading a node that was retired before this epoch. Only the end of a scan makes one; `restored` brings back one that was saved.
 #[derive(Clone, Copy)]

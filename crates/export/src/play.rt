@@ -2,7 +2,7 @@
 ghost use Rattle.std.specs.Prelude.{◌≡◌, length};
 ghost use Rattle.export.specs.Plays.{refused_number, WhyNot, PlayedBy, Unplayed};
 
-use memory::{LateStore, MemoryError};
+use memory::{LateStore, LentMemory, MemoryError};
 use moves::{Played, Refused, play_moves};
 
 // How a list was played.
@@ -72,9 +72,13 @@ pub extern "C" fn dezhavin_play(
     ensures memory { Unplayed result ((words.new ≡ words.old) × (held.new ≡ held.old) × (free.new ≡ free.old) × (late.new ≡ late.old)) }
     ensures others { Unplayed result ((own.new ≡ own.old) × (kinds.new ≡ kinds.old) × (notes.new ≡ notes.old) × (out.new ≡ out.old)) }
 {
-    match play_moves(
-        cpus, blocks, words, held, free, late, own, moves, kinds, notes,
-    ) {
+    let lent = LentMemory {
+        words,
+        held,
+        free,
+        late,
+    };
+    match play_moves(cpus, blocks, lent, own, moves, kinds, notes) {
         Ok(played) => {
             *out = played_words(played);
             0

@@ -20,7 +20,7 @@ pub enum Doing {
 pub struct MoveList<'a> {
     words: &'a [u64],
     cpus: u32,
-    // how many words are read
+    // how many words are read, which the caller is told
     pub at: usize,
     doing: Doing,
     // turns that were taken
@@ -33,8 +33,7 @@ pub struct MoveList<'a> {
 fn is_busy(busy: &[bool], cpu: u32) -> bool
     ensures { result ≡ slice_index_or busy.now cpu false }
 {
-    let i = cpu as usize;
-    if i < busy.len() { busy[i] } else { false }
+    busy.get(cpu as usize).copied().unwrap_or(false)
 }
 
 // A piece in two words.
@@ -55,8 +54,9 @@ fn read_pieces(words: &[u64], at: usize, count: usize, row: &mut [Piece])
     requires { (PiecesFit count words.now at) × (count ≤ length row.old) }
     ensures { (k : ℕ) → k < count → slice_index_or row.new k blank ≡ piece_at words.now (at + 2 * k) }
 {
-    for k in 0..count {
-        row[k] = read_piece(words[at + 2 * k], words[at + 2 * k + 1]);
+    let (pairs, _) = words[at..at + 2 * count].as_chunks::<2>();
+    for (k, [first, second]) in pairs.iter().enumerate() {
+        row[k] = read_piece(*first, *second);
     }
 }
 
@@ -95,31 +95,19 @@ impl MoveList<'_> {
         ensures left { self.new.doing ≡ left_of self.old.doing (busy_of self.old.doing busy.now) }
         ensures same { (self.new.words.now ≡ self.old.words.now) × ((self.new.cpus ≡ self.old.cpus) × (self.new.at ≡ self.old.at)) }
     {
-        match self.doing {
-            Doing::Reading => None,
-            Doing::Going { cpu, left } => {
-                if left == 0 || !is_busy(busy, cpu) {
-                    self.doing = Doing::Reading;
-                    return None;
-                }
-                self.doing = Doing::Going {
-                    cpu,
-                    left: left - 1,
-                };
-                Some(Move::Go { cpu })
+        let (next, doing) = match self.doing {
+            Doing::Going { cpu, left } if left > 0 && is_busy(busy, cpu) => {
+                let left = left - 1;
+                (Some(Move::Go { cpu }), Doing::Going { cpu, left })
             }
-            Doing::Arriving { cpu, left } => {
-                if left == 0 {
-                    self.doing = Doing::Reading;
-                    return None;
-                }
-                self.doing = Doing::Arriving {
-                    cpu,
-                    left: left - 1,
-                };
-                Some(Move::Arrive { cpu })
+            Doing::Arriving { cpu, left } if left > 0 => {
+                let left = left - 1;
+                (Some(Move::Arrive { cpu }), Doing::Arriving { cpu, left })
             }
-        }
+            _ => (None, Doing::Reading),
+        };
+        self.doing = doing;
+        next
     }
 
     // Something begins on a processor, unless it is busy.
@@ -135,8 +123,7 @@ impl MoveList<'_> {
     }
 
     // The next move is taken up.
-    fn take_up(&mut self, busy: &[bool], row: &mut [Piece]) -> Option<Move>
-        requires { length row.old ≡ 8 }
+    fn take_up(&mut self, busy: &[bool], row: &mut [Piece; 8]) -> Option<Move>
         ensures { TakenUp busy.now self.old.cpus self.old.words.now self.old.at result self.new row.new }
     {
         let at = self.at;
@@ -151,19 +138,18 @@ impl MoveList<'_> {
                 read_pieces(self.words, at + 1, kept(size), row);
                 self.begin(busy, cpu, Ask::Change(size))
             }
-            Listed::Go { cpu: _, turns: _ } => None,
-            Listed::Arrive { cpu: _, stores: _ } => None,
+            Listed::Go { .. } | Listed::Arrive { .. } => None,
         }
     }
 
     // What comes next by the present move, or by the next one; none where that has nothing.
-    pub(crate) fn advance(&mut self, busy: &[bool], row: &mut [Piece]) -> Option<Move>
-        requires { length row.old ≡ 8 }
+    pub(crate) fn advance(&mut self, busy: &[bool], row: &mut [Piece; 8]) -> Option<Move>
         ensures { Advanced (comes_of self.old.doing (busy_of self.old.doing busy.now)) busy.now self.old result self.new row.new }
     {
-        match self.go_on(busy) {
-            Some(next) => Some(next),
-            None => self.take_up(busy, row),
+        // not `or_else`: of what its closure changes nothing would be known
+        if let Some(next) = self.go_on(busy) {
+            return Some(next);
         }
+        self.take_up(busy, row)
     }
 }

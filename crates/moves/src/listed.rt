@@ -5,6 +5,7 @@ ghost use Rattle.moves.specs.Moves.{kept_of, body_of, width_of, head_of, PiecesF
 
 use routes::Piece;
 
+// Kinds are numbers: a caller in Rust or C writes the list.
 const GO: u64 = 0;
 
 const ARRIVE: u64 = 1;
@@ -12,8 +13,6 @@ const ARRIVE: u64 = 1;
 const FIND: u64 = 2;
 
 const CHANGE: u64 = 3;
-// Past an address, or a number of pieces.
-const PAST_U32: u64 = 0x1_0000_0000;
 // Past the first word of a piece: 0 or 1, and twice a length.
 const PAST_FIRST: u64 = 512;
 
@@ -32,7 +31,7 @@ pub enum Listed {
 pub fn kept(size: u32) -> usize
     ensures { result ≡ kept_of size }
 {
-    if size <= 8 { size as usize } else { 8 }
+    size.min(8) as usize
 }
 
 impl Listed {
@@ -41,7 +40,7 @@ impl Listed {
         ensures { result ≡ body_of self }
     {
         match self {
-            Listed::Change { cpu: _, size } => kept(size),
+            Listed::Change { size, .. } => kept(size),
             _ => 0,
         }
     }
@@ -64,19 +63,19 @@ fn read_head(word: u64, cpus: u32) -> Option<Listed>
     if cpu >= cpus {
         return None;
     }
-    match word % 16 {
-        GO => Some(Listed::Go { cpu, turns: x }),
-        ARRIVE => Some(Listed::Arrive { cpu, stores: x }),
-        FIND if x < PAST_U32 => Some(Listed::Find {
+    Some(match word % 16 {
+        GO => Listed::Go { cpu, turns: x },
+        ARRIVE => Listed::Arrive { cpu, stores: x },
+        FIND => Listed::Find {
             cpu,
-            address: x as u32,
-        }),
-        CHANGE if x < PAST_U32 => Some(Listed::Change {
+            address: u32::try_from(x).ok()?,
+        },
+        CHANGE => Listed::Change {
             cpu,
-            size: x as u32,
-        }),
-        _ => None,
-    }
+            size: u32::try_from(x).ok()?,
+        },
+        _ => return None,
+    })
 }
 
 // Do so many pieces stand in words from a place on?
@@ -85,30 +84,19 @@ fn pieces_fit(words: &[u64], at: usize, count: usize) -> bool
     ensures sound { T result → PiecesFit count words.now at }
     ensures exact { PiecesFit count words.now at → T result }
 {
-    if words.len() - at < 2 * count {
+    let Some(pieces) = words.get(at..at + 2 * count) else {
         return false;
-    }
-    for k in 0..count {
-        if words[at + 2 * k] >= PAST_FIRST {
-            return false;
-        }
-    }
-    true
+    };
+    let (pairs, _) = pieces.as_chunks::<2>();
+    pairs.iter().all(|pair| pair[0] < PAST_FIRST)
 }
 
 // The move that stands in words at a place, if one does.
 pub fn read_move(words: &[u64], at: usize, cpus: u32) -> Option<Listed>
     ensures { MatchOption result ((l : Listed) → IsMove cpus words.now at l → ⊥) (IsMove cpus words.now at) }
 {
-    if at >= words.len() {
-        return None;
-    }
-    let listed = read_head(words[at], cpus)?;
-    if pieces_fit(words, at + 1, listed.body()) {
-        Some(listed)
-    } else {
-        None
-    }
+    let listed = read_head(*words.get(at)?, cpus)?;
+    pieces_fit(words, at + 1, listed.body()).then_some(listed)
 }
 
 // Are words moves, one after the other, and nothing else?
@@ -117,11 +105,8 @@ pub fn all_moves(words: &[u64], cpus: u32) -> bool
     ensures exact { AllMoves cpus words.now 0 → T result }
 {
     let mut at = 0;
-    while at < words.len() {
-        match read_move(words, at, cpus) {
-            Some(listed) => at += listed.width(),
-            None => return false,
-        }
+    while let Some(listed) = read_move(words, at, cpus) {
+        at += listed.width();
     }
-    true
+    at == words.len()
 }

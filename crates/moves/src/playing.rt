@@ -5,7 +5,7 @@ ghost use Rattle.moves.specs.Plays.{Playable, RefusedFor};
 
 use crate::list::MoveList;
 use crate::listed::all_moves;
-use memory::{LateStore, Layout, MemoryError, SharedMemory};
+use memory::{Layout, LentMemory, MemoryError, SharedMemory};
 use world::{Journal, play};
 
 // Words of each processor's own.
@@ -50,16 +50,13 @@ pub struct Played {
 fn layout_for(
     cpus: u32,
     blocks: u32,
-    words: &[u64],
-    held: &[bool],
-    free: &[u32],
-    late: &[LateStore],
+    lent: &LentMemory<'_>,
     own: &[u64],
     moves: &[u64],
 ) -> Result<Layout, Refused>
-    ensures { MatchResult result (Playable (record { cpus = cpus; blocks = blocks; words = length words.now; held = length held.now; free = length free.now; late = length late.now; own = length own.now }) moves.now) (RefusedFor (record { cpus = cpus; blocks = blocks; words = length words.now; held = length held.now; free = length free.now; late = length late.now; own = length own.now }) moves.now) }
+    ensures { MatchResult result (Playable (record { cpus = cpus; blocks = blocks; words = length lent.now.words.now; held = length lent.now.held.now; free = length lent.now.free.now; late = length lent.now.late.now; own = length own.now }) moves.now) (RefusedFor (record { cpus = cpus; blocks = blocks; words = length lent.now.words.now; held = length lent.now.held.now; free = length lent.now.free.now; late = length lent.now.late.now; own = length own.now }) moves.now) }
 {
-    let layout = Layout::new(cpus, blocks, words, held, free, late)?;
+    let layout = Layout::new(cpus, blocks, lent)?;
     if own.len() != OWN_WORDS * cpus as usize {
         return Err(Refused::Own);
     }
@@ -73,21 +70,34 @@ fn layout_for(
 pub fn play_moves(
     cpus: u32,
     blocks: u32,
-    words: &mut [u64],
-    held: &mut [bool],
-    free: &mut [u32],
-    late: &mut [LateStore],
+    lent: LentMemory<'_>,
     own: &mut [u64],
     moves: &[u64],
     kinds: &mut [u8],
     notes: &mut [u64],
 ) -> Result<Played, Refused>
-    ensures why { IfErr result (RefusedFor (record { cpus = cpus; blocks = blocks; words = length words.old; held = length held.old; free = length free.old; late = length late.old; own = length own.old }) moves.now) }
-    ensures memory { OnErr result ((words.new ≡ words.old) × (held.new ≡ held.old) × (free.new ≡ free.old) × (late.new ≡ late.old)) }
+    ensures why { IfErr result (RefusedFor (record { cpus = cpus; blocks = blocks; words = length lent.entry.words.now; held = length lent.entry.held.now; free = length lent.entry.free.now; late = length lent.entry.late.now; own = length own.old }) moves.now) }
+    ensures memory { OnErr result ((lent.exit.0.now ≡ lent.entry.words.now) × (lent.exit.1.0.now ≡ lent.entry.held.now) × (lent.exit.1.1.0.now ≡ lent.entry.free.now) × (lent.exit.1.1.1.0.now ≡ lent.entry.late.now)) }
     ensures others { OnErr result ((own.new ≡ own.old) × (kinds.new ≡ kinds.old) × (notes.new ≡ notes.old)) }
 {
-    let layout = layout_for(cpus, blocks, words, held, free, late, own, moves)?;
-    let mut memory = SharedMemory::new(layout, words, held, free, late);
+    let checked = layout_for(cpus, blocks, &lent, own, moves);
+    // taken apart: of a struct that is dropped a proof doesn't know what it leaves
+    let LentMemory {
+        words,
+        held,
+        free,
+        late,
+    } = lent;
+    let layout = checked?;
+    let mut memory = SharedMemory::new(
+        layout,
+        LentMemory {
+            words,
+            held,
+            free,
+            late,
+        },
+    );
     let mut journal = Journal::new(kinds, notes);
     let mut list = MoveList::new(moves, cpus);
     play(&mut memory, &mut journal, own, &mut list);

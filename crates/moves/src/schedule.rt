@@ -1,12 +1,12 @@
 // A list of moves as the schedule of a world.
 use crate::list::MoveList;
-use memory::LateStore;
+use memory::{LateStore, MOST_CPUS};
 use routes::act::Act;
 use routes::{Answer, Piece};
 use world::{Move, Schedule};
 
 impl Schedule for MoveList<'_> {
-    fn next(&mut self, busy: &[bool], pieces: &mut [Piece]) -> Move {
+    fn next(&mut self, busy: &[bool; MOST_CPUS], pieces: &mut [Piece; 8]) -> Move {
         for _ in 0..u64::MAX {
             if let Some(next) = self.advance(busy, pieces) {
                 return next;

@@ -1,4 +1,4 @@
-use Rattle.std.proofs.Common.{◌≡◌, ℕ, ◌+◌, ◌<◌, sym, refl, ap, ◌∙◌, arith}
+use Rattle.std.proofs.Common.{◌≡◌, ℕ, ◌+◌, ◌<◌, inl, inr, sym, refl, ap, ◌∙◌, arith}
 use Rattle.moves.specs.declared.listed.Listed.{Listed}
 use Rattle.moves.specs.Moves.{body_of}
 use Rattle.moves.specs.Lists.{none, some, begins_of}
@@ -36,15 +36,6 @@ returns-in-Go c = some c.in-Some.listed (record {
   stands = c.in-Some.ensures;
   behind = ap (λ n. c.args.self.now.at + n) c.width.ensures.value;
   doing = c.doing_of-self.ensures;
-  begins = ap (λ (l : Listed). begins_of l c.args.busy.now) (sym c.in-Go.is);
-  pieces = λ k h. absurd (no_pieces c.in-Some.listed k (ap body_of c.in-Go.is) h);
-})
-
-pub returns-in-Arrive : goal.returns-in-Arrive
-returns-in-Arrive c = some c.in-Some.listed (record {
-  stands = c.in-Some.ensures;
-  behind = ap (λ n. c.args.self.now.at + n) c.width.ensures.value;
-  doing = c.doing_of-self.ensures;
-  begins = ap (λ (l : Listed). begins_of l c.args.busy.now) (sym c.in-Arrive.is);
-  pieces = λ k h. absurd (no_pieces c.in-Some.listed k (ap body_of c.in-Arrive.is) h);
+  begins = elim c.in-Go.is [ inl (p, n, e) ↦ ap (λ (l : Listed). begins_of l c.args.busy.now) (sym e) | inr (p, n, e) ↦ ap (λ (l : Listed). begins_of l c.args.busy.now) (sym e) ];
+  pieces = λ k h. absurd (no_pieces c.in-Some.listed k (elim c.in-Go.is [ inl (p, n, e) ↦ ap body_of e | inr (p, n, e) ↦ ap body_of e ]) h);
 })

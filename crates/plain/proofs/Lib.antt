@@ -1,4 +1,5 @@
 pub mod Picked
 pub mod RouteLists
+pub mod Longest
 pub mod OnePiece
 pub mod AllPieces

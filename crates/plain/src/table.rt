@@ -1,6 +1,6 @@
 // The table.
-use super::entry::Entry;
-use super::size::ROOM;
+use crate::entry::Entry;
+use crate::size::ROOM;
 use arrayvec::ArrayVec;
 
 mod lookup;
@@ -11,4 +11,3 @@ mod update;
 pub struct PlainTable {
     entries: ArrayVec<Entry, ROOM>,
 }
-

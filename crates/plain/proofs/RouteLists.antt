@@ -1,22 +1,14 @@
 -- The routes of a row of entries: how many they are, what a change of the row makes of them, and whether one is there.
-use Rattle.std.proofs.Common.{◌≡◌, not, Bool, List, [], ◌∷◌, ◌++◌, length, map, reverse, filter, refl, ap, ◌∙◌, sym, inl, inr, append-nil}
+use Rattle.std.proofs.Common.{◌≡◌, not, Bool, List, [], ◌∷◌, map, reverse, filter, refl, ap, ◌∙◌, sym, inl, inr, append-nil}
 use Rattle.std.specs.List.{list_any}
 use Rattle.std.proofs.lemmas.Bool.{cases_Bool}
-use Rattle.std.proofs.lemmas.List.{length-map, length-reverse, reverse-append}
+use Rattle.std.proofs.lemmas.List.{reverse-append}
 use Rattle.std.proofs.lemmas.List.Elements.{filter-append}
 use Rattle.std.proofs.lemmas.List.Sorted.{IsPermutation-reverse, list_any-IsPermutation}
 use Rattle.routes.specs.declared.prefix.Prefix.{Prefix}
 use Rattle.routes.specs.Routes.{has, without}
 use Rattle.plain.specs.declared.entry.Entry.{Entry}
 use Rattle.plain.specs.Entries.{has_prefix, route_of, routes_of}
-
--- There is a route for each entry.
-pub length-routes : (es : List Entry) → length (routes_of es) ≡ length es
-length-routes es = length-map (reverse es) route_of ∙ length-reverse es
-
--- One more entry is one more route in front.
-pub routes_push : (es : List Entry) (e : Entry) → routes_of (es ++ e ∷ []) ≡ route_of e ∷ routes_of es
-routes_push es e = ap (map route_of) (reverse-append es (e ∷ []))
 
 -- A filter of a row, read from its end.
 reverse-filter : (test : Entry → Bool) (es : List Entry) → reverse (filter test es) ≡ filter test (reverse es)

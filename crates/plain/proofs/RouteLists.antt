@@ -1,5 +1,5 @@
--- The routes of a row of entries: how many they are, what a change of the row makes of them, and whether one is there.
-use Rattle.std.proofs.Common.{◌≡◌, not, Bool, List, [], ◌∷◌, map, reverse, filter, refl, ap, ◌∙◌, sym, inl, inr, append-nil}
+-- The routes of a row of entries: which are left without a prefix, and whether one has it.
+use Rattle.std.proofs.Common.{◌≡◌, not, eqb, ◌&&◌, Bool, List, [], ◌∷◌, map, reverse, filter, refl, ap, ◌∙◌, sym, inl, inr, append-nil}
 use Rattle.std.specs.List.{list_any}
 use Rattle.std.proofs.lemmas.Bool.{cases_Bool}
 use Rattle.std.proofs.lemmas.List.{reverse-append}
@@ -8,7 +8,11 @@ use Rattle.std.proofs.lemmas.List.Sorted.{IsPermutation-reverse, list_any-IsPerm
 use Rattle.routes.specs.declared.prefix.Prefix.{Prefix}
 use Rattle.routes.specs.Routes.{has, without}
 use Rattle.plain.specs.declared.entry.Entry.{Entry}
-use Rattle.plain.specs.Entries.{has_prefix, route_of, routes_of}
+use Rattle.plain.specs.Entries.{route_of, routes_of}
+
+-- is it the route of that prefix
+abbrev pub has_prefix : Prefix → Entry → Bool
+has_prefix p e = eqb p.len e.prefix.len && eqb p.bits e.prefix.bits
 
 -- A filter of a row, read from its end.
 reverse-filter : (test : Entry → Bool) (es : List Entry) → reverse (filter test es) ≡ filter test (reverse es)

@@ -6,7 +6,7 @@ use arrayvec::ArrayVec;
 mod lookup;
 mod update;
 
-// Its routes, the newest last.
+// Its routes, the newest last. No ArrayVec is Copy, but clone() of a table cannot fail.
 #[derive(Clone, Drop)]
 pub struct PlainTable {
     entries: ArrayVec<Entry, ROOM>,

@@ -18,12 +18,11 @@ impl Draft {
         let prefix = make_prefix(piece.len as u64, piece.bits as u64)?;
         if piece.puts {
             self.put_in(prefix, piece.tells);
-            return Ok(());
-        }
-        if !self.contains(prefix) {
+        } else if self.contains(prefix) {
+            self.take_out(prefix);
+        } else {
             return Err(Refusal::AbsentRoute);
         }
-        self.take_out(prefix);
         Ok(())
     }
 

@@ -1,5 +1,5 @@
 // Making a table, and asking it.
-ghost use Rattle.std.specs.Prelude.{◌≡◌, []};
+ghost use Rattle.std.specs.Prelude.{◌≡◌, ◌≤◌, []};
 ghost use Rattle.arrayvec.specs.ArrayVec.{array_vec_len};
 ghost use Rattle.routes.specs.Routes.{find};
 ghost use Rattle.plain.specs.Tables.{table_routes};
@@ -20,7 +20,8 @@ impl PlainTable {
 
     // How many routes it has.
     pub fn len(&self) -> usize
-        ensures { result ≡ array_vec_len self.now.entries }
+        ensures value { result ≡ array_vec_len self.now.entries }
+        ensures fits { result ≤ 2048 }
     {
         self.entries.len()
     }

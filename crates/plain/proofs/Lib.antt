@@ -1,4 +1,3 @@
 pub mod Picked
 pub mod RouteLists
-pub mod OnePiece
-pub mod AllPieces
+pub mod Longest

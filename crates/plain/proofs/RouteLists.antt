@@ -1,23 +1,18 @@
--- The routes of a row of entries: how many they are, what a change of the row makes of them, and what is looked for in them.
-use Rattle.std.proofs.Common.{◌≡◌, ℕ, not, Bool, ◌&&◌, leb, List, [], ◌∷◌, ◌++◌, length, map, reverse, filter, fold, refl, ap, ◌∙◌, sym, inl, inr, Option, Some, None, append-nil}
+-- The routes of a row of entries: which are left without a prefix, and whether one has it.
+use Rattle.std.proofs.Common.{◌≡◌, not, eqb, ◌&&◌, Bool, List, [], ◌∷◌, map, reverse, filter, refl, ap, ◌∙◌, sym, inl, inr, append-nil}
 use Rattle.std.specs.List.{list_any}
 use Rattle.std.proofs.lemmas.Bool.{cases_Bool}
-use Rattle.std.proofs.lemmas.List.{length-map, length-reverse, reverse-append}
+use Rattle.std.proofs.lemmas.List.{reverse-append}
 use Rattle.std.proofs.lemmas.List.Elements.{filter-append}
 use Rattle.std.proofs.lemmas.List.Sorted.{IsPermutation-reverse, list_any-IsPermutation}
 use Rattle.routes.specs.declared.prefix.Prefix.{Prefix}
-use Rattle.routes.specs.Routes.{fits, longest, find, has, without}
+use Rattle.routes.specs.Routes.{has, without}
 use Rattle.plain.specs.declared.entry.Entry.{Entry}
-use Rattle.plain.specs.Entries.{has_prefix, route_of, routes_of}
-use Rattle.plain.specs.Lookups.{found_of, least_of, better_of}
+use Rattle.plain.specs.Entries.{route_of, routes_of}
 
--- There is a route for each entry.
-pub length-routes : (es : List Entry) → length (routes_of es) ≡ length es
-length-routes es = length-map (reverse es) route_of ∙ length-reverse es
-
--- One more entry is one more route in front.
-pub routes_push : (es : List Entry) (e : Entry) → routes_of (es ++ e ∷ []) ≡ route_of e ∷ routes_of es
-routes_push es e = ap (map route_of) (reverse-append es (e ∷ []))
+-- is it the route of that prefix
+abbrev pub has_prefix : Prefix → Entry → Bool
+has_prefix p e = eqb p.len e.prefix.len && eqb p.bits e.prefix.bits
 
 -- A filter of a row, read from its end.
 reverse-filter : (test : Entry → Bool) (es : List Entry) → reverse (filter test es) ≡ filter test (reverse es)
@@ -29,7 +24,7 @@ reverse-filter test (e ∷ es) =
       | inr f ↦ rw (f, ih) (sym (append-nil (filter test (reverse es))))
     ])
 
--- Without the entries of a prefix there are the routes without those of it.
+-- The routes of the entries of other prefixes, in the order of the row.
 filtered_routes : (p : Prefix) (es : List Entry) → map route_of (filter (λ e. not (has_prefix p e)) es) ≡ without p.len p.bits (map route_of es)
 unfolding without
 filtered_routes p [] = refl
@@ -40,26 +35,16 @@ filtered_routes p (e ∷ es) =
       | inr f ↦ rw (f, ih) refl
     ]
 
+-- Without the entries of a prefix there are the routes without those of it.
 pub routes_without : (p : Prefix) (es : List Entry) → routes_of (filter (λ e. not (has_prefix p e)) es) ≡ without p.len p.bits (routes_of es)
 routes_without p es = ap (map route_of) (reverse-filter (λ e. not (has_prefix p e)) es) ∙ filtered_routes p (reverse es)
 
--- A route of a prefix is there where an entry has the prefix.
+-- Some entry has the prefix if a route has it, in the order of the row.
 any_has : (p : Prefix) (es : List Entry) → list_any (has_prefix p) es ≡ has p.len p.bits (map route_of es)
 unfolding has
 any_has p [] = refl
 any_has p (e ∷ es) = rw (any_has p es) refl
 
+-- A route of a prefix is there where an entry has the prefix.
 pub routes_have : (p : Prefix) (es : List Entry) → list_any (has_prefix p) es ≡ has p.len p.bits (routes_of es)
 routes_have p es = list_any-IsPermutation (has_prefix p) es (reverse es) (IsPermutation-reverse es) ∙ any_has p (reverse es)
-
--- The longest route is found by taking the better of the best so far and each entry in turn.
-longest_from : (a : ℕ) (best : Option Entry) (es : List Entry) → found_of (fold (better_of a) best es) ≡ longest a (map route_of es) (found_of best) (least_of best)
-unfolding longest
-longest_from a best [] = refl
-longest_from a best (e ∷ es) = elim (cases_Bool (fits e.prefix.len e.prefix.bits a && leb (least_of best) e.prefix.len)) [
-  | inl t ↦ rw (t) (longest_from a (Some e) es)
-  | inr f ↦ rw (f) (longest_from a best es)
-]
-
-pub longest_found : (a : ℕ) (es : List Entry) → found_of (fold (better_of a) None (reverse es)) ≡ find a (routes_of es)
-longest_found a es = longest_from a None (reverse es)

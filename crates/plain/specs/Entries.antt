@@ -1,6 +1,6 @@
 -- The routes that a row of entries holds.
 -- Assumes nothing.
-use Rattle.std.specs.Prelude.{ℕ, Bool, ◌&&◌, List, map, reverse, ◌==◌}
+use Rattle.std.specs.Prelude.{ℕ, List, map, reverse}
 use Rattle.routes.specs.declared.prefix.Prefix.{Prefix}
 use Rattle.routes.specs.Routes.{Route}
 use Rattle.plain.specs.declared.entry.Entry.{Entry}
@@ -15,10 +15,6 @@ route_for p tells = record { len = p.len; bits = p.bits; tells = tells }
 
 abbrev pub route_of : Entry → Route
 route_of e = route_for e.prefix e.tells
-
--- is it the route of that prefix
-abbrev pub has_prefix : Prefix → Entry → Bool
-has_prefix p e = p.len == e.prefix.len && p.bits == e.prefix.bits
 
 -- the routes of a row of entries, the newest first
 abbrev pub routes_of : List Entry → List Route

@@ -1,4 +1,3 @@
 pub mod Entries
-pub mod Lookups
 pub mod Tables
 pub mod Changes

@@ -1,6 +1,6 @@
 // The copy of a table that a change works on, with room for its pieces beyond what a table has.
-use super::entry::Entry;
-use super::size::SLOTS;
+use crate::entry::Entry;
+use crate::size::SLOTS;
 use arrayvec::ArrayVec;
 
 mod edit;

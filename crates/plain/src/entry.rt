@@ -11,7 +11,7 @@ pub struct Entry {
     pub tells: u32,
 }
 
-// What stands where there is no route.
+// What stands where there is no route; by hand, since no Default is derived for Prefix, which has a ghost field.
 impl Default for Entry {
     ghost is_default = { λ e. e ≡ blank };
 

@@ -1,4 +1,4 @@
-// A table of routes as a plain list in an array: what a lookup finds, and what a change makes of it.
+// A table of routes as a plain list: what a lookup finds, and what a change makes of it.
 #![tactic(auto)]
 
 ghost use Rattle.plain.specs.Tables.{CountsRoutes};

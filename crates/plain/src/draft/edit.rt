@@ -5,8 +5,8 @@ ghost use Rattle.routes.specs.Routes.{has, without};
 ghost use Rattle.plain.specs.Entries.{route_for};
 ghost use Rattle.plain.specs.Tables.{draft_routes};
 
-use super::super::entry::Entry;
 use super::Draft;
+use crate::entry::Entry;
 use routes::Prefix;
 
 impl Draft {

@@ -1,11 +1,9 @@
 // Making a table, and asking it.
-ghost use Rattle.std.specs.Prelude.{◌≡◌, []};
+ghost use Rattle.std.specs.Prelude.{◌≡◌, ◌≤◌, []};
 ghost use Rattle.arrayvec.specs.ArrayVec.{array_vec_len};
 ghost use Rattle.routes.specs.Routes.{find};
-ghost use Rattle.plain.specs.Lookups.{better_of};
 ghost use Rattle.plain.specs.Tables.{table_routes};
 
-use super::super::entry::Entry;
 use super::PlainTable;
 use arrayvec::ArrayVec;
 use routes::Answer;
@@ -22,7 +20,8 @@ impl PlainTable {
 
     // How many routes it has.
     pub fn len(&self) -> usize
-        ensures { result ≡ array_vec_len self.now.entries }
+        ensures value { result ≡ array_vec_len self.now.entries }
+        ensures fits { result ≤ 2048 }
     {
         self.entries.len()
     }
@@ -33,19 +32,8 @@ impl PlainTable {
     {
         self.entries
             .iter()
-            .rev()
-            .fold(None, |best, entry| better(best, *entry, address))
+            .filter(|e| e.fits(address))
+            .max_by_key(|e| e.prefix.len)
             .map_or(Answer::Nothing, |e| Answer::Found(e.prefix.len, e.tells))
-    }
-}
-
-// The entry, if it fits the address and is longer than what was best; else that.
-fn better(best: Option<Entry>, entry: Entry, address: u32) -> Option<Entry>
-    ensures { result ≡ better_of address best entry }
-{
-    if entry.fits(address) && best.is_none_or(|b| b.prefix.len < entry.prefix.len) {
-        Some(entry)
-    } else {
-        best
     }
 }

@@ -2,10 +2,10 @@
 ghost use Rattle.plain.specs.Changes.{Changed, Drafted};
 ghost use Rattle.plain.specs.Tables.{table_routes};
 
-use super::super::change_error::ChangeError;
-use super::super::draft::Draft;
-use super::super::size::MOST_PIECES;
 use super::PlainTable;
+use crate::change_error::ChangeError;
+use crate::draft::Draft;
+use crate::size::MOST_PIECES;
 use arrayvec::ArrayVec;
 use routes::{Piece, Refusal};
 

@@ -1,8 +1,7 @@
 use Rattle.std.proofs.Common.{◌∙◌, rules, tests}
 use Rattle.std.proofs.lemmas.Iterator.{YieldsList-from_slice}
 use Rattle.std.proofs.lemmas.Iterator.Search.{any_from_yields_List}
-use Rattle.plain.specs.Entries.{has_prefix}
-use Rattle.plain.proofs.RouteLists.{routes_have}
+use Rattle.plain.proofs.RouteLists.{has_prefix, routes_have}
 use Rattle.plain.proofs.draft.Draft.contains.Goals as goal
 
 pub returns : goal.returns

@@ -1,12 +1,15 @@
 use Rattle.std.proofs.Common.{◌≡◌, ◌∙◌, ap, rules, tests}
-use Rattle.std.proofs.lemmas.Iterator.Adapters.{YieldsList-from_rev_slice}
-use Rattle.std.proofs.lemmas.Iterator.Consumers.{fold_from_yields_List}
-use Rattle.plain.specs.Lookups.{found_of, better_of}
-use Rattle.plain.proofs.RouteLists.{longest_found}
+use Rattle.std.proofs.lemmas.Iterator.{YieldsList-from_slice}
+use Rattle.std.proofs.lemmas.Iterator.Consumers.{YieldsList-from_filter}
+use Rattle.std.specs.Option.{option_map}
+use Rattle.plain.proofs.Longest.{found_of, fits_at, longest_found}
+use Rattle.plain.proofs.Picked.{max_by_key_from_yields_List}
 use Rattle.plain.proofs.table.PlainTable.find.Goals as goal
 
 pub returns : goal.returns
 returns c =
-    let best = fold_from_yields_List _ (better_of c.args.address) _ _ c.fold.ensures.ran (YieldsList-from_rev_slice c.args.self.now.entries.items cc) (λ a x b q k. search (rules, tests)) in
-    let told : c.map_or.result ≡ found_of c.fold.result = search rules in
+    let best = max_by_key_from_yields_List (λ e. e.prefix.len) c.max_by_key.result c.max_by_key.ensures.ran
+    (YieldsList-from_filter _ (fits_at c.args.address) (YieldsList-from_slice c.args.self.now.entries.items cc) c.filter.ensures.closure (λ x b q k. search (rules, tests)))
+    (λ x k q h. search (rules, tests)) in
+    let told : c.map_or.result ≡ found_of (option_map (λ y. y.now) c.max_by_key.result) = search rules in
     told ∙ ap found_of best ∙ longest_found c.args.address c.args.self.now.entries.items

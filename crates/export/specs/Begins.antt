@@ -8,14 +8,10 @@ use Rattle.routes.specs.declared.Piece.{Piece}
 use Rattle.routes.specs.declared.work.Work.{Work}
 use Rattle.routes.specs.declared.work.Work.TheVariants.{Idle, Lookup, Update}
 use Rattle.routes.specs.Machine.Begins.{begin_work, begin_words}
-use Rattle.port.specs.Registers.{cpu_of}
+use Rattle.port.specs.Registers.{with_work, cpu_of}
 use Rattle.export.specs.declared.refusal.Refusal.{Refusal}
 use Rattle.export.specs.declared.refusal.Refusal.TheVariants.{Length, Value, Busy}
 use Rattle.export.specs.Calls.{Outcome, loaded}
-
--- a processor with this under way
-abbrev pub with_work : Work → Cpu
-with_work k = record { work = k }
 
 -- Registers as a processor starts with them.
 abbrev pub Started : List ℕ → Outcome → List ℕ → Type 0

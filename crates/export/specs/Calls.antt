@@ -1,6 +1,6 @@
 -- What a call returns: 0, or the number of a refusal.
 -- Assumes nothing.
-use Rattle.std.specs.Prelude.{◌≡◌, ℕ, cond, List, length, Some, None, Ok, Err, Option, Result, ◌==◌}
+use Rattle.std.specs.Prelude.{◌≡◌, ℕ, cond, List, length, Ok, Err, Result, ◌==◌, ok_or}
 use Rattle.routes.specs.declared.Cpu.{Cpu}
 use Rattle.port.specs.declared.turn.NotReady.{NotReady}
 use Rattle.port.specs.declared.turn.NotReady.TheVariants.{Number as NoNumber, Words as NoWords, Registers as NoRegisters, Reply as NoReply}
@@ -32,10 +32,6 @@ refusal_of NoWords = Length
 refusal_of NoRegisters = Registers
 refusal_of NoReply = Value
 
-abbrev pub found : Option Cpu → Result Cpu Refusal
-found None = Err Registers
-found (Some c) = Ok c
-
 -- the processor in these registers
 abbrev pub loaded : List ℕ → Result Cpu Refusal
-loaded o = cond (length o == 16) (found (cpu_of o)) (Err Length)
+loaded o = cond (length o == 16) (ok_or (cpu_of o) Registers) (Err Length)

@@ -1,45 +1,36 @@
 // Something begins, on a processor that has nothing under way.
 ghost use Rattle.std.specs.Prelude.{◌≡◌, ◌<◌, length};
 ghost use Rattle.routes.specs.declared.Ask.TheVariants.{Change, Find};
-ghost use Rattle.export.specs.Begins.{Started, may_begin, idle_work, Begun, BegunWith, may_update, piece_fits as piece_fits_of, pieces_fit as pieces_fit_of, piece_in, pieces_in};
+ghost use Rattle.export.specs.Begins.{Started, may_begin, Begun, BegunWith, may_update, piece_fits as piece_fits_of, pieces_fit as pieces_fit_of, piece_in, pieces_in};
 
 use crate::refusal::{Refusal, load};
-use port::{REGISTER_WORDS, save};
+use port::{RegisterWords, save};
 use routes::lookup::Lookup;
 use routes::work::Work;
 use routes::{Ask, Cpu, Piece};
+use std::array;
 
 const OWN_WORDS: usize = 4096;
 
-const PIECES_WORDS: usize = 32;
+// Eight pieces, each with four words.
+type PieceWords = [u64; 32];
 
 // Registers as a processor starts with them.
 pub fn start(registers: &mut [u64]) -> Result<(), Refusal>
     ensures { Started registers.old result registers.new }
 {
-    if registers.len() != REGISTER_WORDS {
-        return Err(Refusal::Length);
-    }
+    let registers: &mut RegisterWords = registers.as_mut_array().ok_or(Refusal::Length)?;
     save(Cpu::new(), registers);
     Ok(())
 }
 
-fn idle(work: Work) -> Result<(), Refusal>
-    ensures { result ≡ idle_work work }
-{
-    match work {
-        Work::Idle => Ok(()),
-        _ => Err(Refusal::Busy),
-    }
-}
-
 // Has the processor nothing under way?
-fn may_begin(registers: &[u64]) -> Result<(), Refusal>
+fn may_begin(registers: &RegisterWords) -> Result<(), Refusal>
     ensures { result ≡ may_begin registers.now }
 {
-    match load(registers) {
-        Ok(cpu) => idle(cpu.work),
-        Err(why) => Err(why),
+    match load(registers)?.work {
+        Work::Idle => Ok(()),
+        _ => Err(Refusal::Busy),
     }
 }
 
@@ -47,6 +38,7 @@ pub fn begin_lookup(registers: &mut [u64], address: u32) -> Result<(), Refusal>
     ensures may { result ≡ may_begin registers.old }
     ensures begun { Begun (Find address) registers.old result registers.new }
 {
+    let registers: &mut RegisterWords = registers.as_mut_array().ok_or(Refusal::Length)?;
     may_begin(registers)?;
     save(
         Cpu {
@@ -57,31 +49,26 @@ pub fn begin_lookup(registers: &mut [u64], address: u32) -> Result<(), Refusal>
     Ok(())
 }
 
-fn piece_fits(words: &[u64], k: usize) -> bool
-    requires { (length words.now ≡ 32) × (k < 8) }
+fn piece_fits(words: &PieceWords, k: usize) -> bool
+    requires { k < 8 }
     ensures { result ≡ piece_fits_of words.now k }
 {
     let at = 4 * k;
-    (words[at] < 2)
-        & (words[at + 1] < 256)
-        & (words[at + 2] < 0x1_0000_0000)
-        & (words[at + 3] < 0x1_0000_0000)
+    words[at] < 2
+        && words[at + 1] < 256
+        && words[at + 2] < 0x1_0000_0000
+        && words[at + 3] < 0x1_0000_0000
 }
 
 // Are the numbers of all pieces such as they can be?
-fn pieces_fit(words: &[u64]) -> bool
-    requires { length words.now ≡ 32 }
-    ensures { result ≡ pieces_fit_of words.now 8 }
+fn pieces_fit(words: &PieceWords) -> bool
+    ensures { result ≡ pieces_fit_of words.now }
 {
-    let mut all = true;
-    for k in 0..8 {
-        all = all & piece_fits(words, k);
-    }
-    all
+    (0..8).all(|k| piece_fits(words, k))
 }
 
-fn piece_in(words: &[u64], k: usize) -> Piece
-    requires { (length words.now ≡ 32) × (k < 8) }
+fn piece_in(words: &PieceWords, k: usize) -> Piece
+    requires { k < 8 }
     ensures { result ≡ piece_in words.now k }
 {
     let at = 4 * k;
@@ -93,35 +80,13 @@ fn piece_in(words: &[u64], k: usize) -> Piece
     }
 }
 
-fn pieces_in(words: &[u64]) -> [Piece; 8]
-    requires { length words.now ≡ 32 }
+fn pieces_in(words: &PieceWords) -> [Piece; 8]
     ensures { result ≡ pieces_in words.now }
 {
-    [
-        piece_in(words, 0),
-        piece_in(words, 1),
-        piece_in(words, 2),
-        piece_in(words, 3),
-        piece_in(words, 4),
-        piece_in(words, 5),
-        piece_in(words, 6),
-        piece_in(words, 7),
-    ]
+    array::from_fn(|k| piece_in(words, k))
 }
 
-// Can an update of these pieces begin?
-fn may_update(registers: &[u64], own: &[u64], pieces: &[u64]) -> Result<(), Refusal>
-    ensures { result ≡ may_update registers.now own.now pieces.now }
-{
-    if own.len() != OWN_WORDS || pieces.len() != PIECES_WORDS {
-        return Err(Refusal::Length);
-    }
-    if !pieces_fit(pieces) {
-        return Err(Refusal::Value);
-    }
-    may_begin(registers)
-}
-
+// An update can begin if the words and the pieces are such as they can be, and nothing is under way.
 pub fn begin_update(
     registers: &mut [u64],
     own: &mut [u64],
@@ -132,7 +97,15 @@ pub fn begin_update(
     ensures begun { Begun (Change size) registers.old result registers.new }
     ensures noted { BegunWith (Change size) pieces.now own.old result own.new }
 {
-    may_update(registers, own, pieces)?;
+    if own.len() != OWN_WORDS {
+        return Err(Refusal::Length);
+    }
+    let pieces: &PieceWords = pieces.as_array().ok_or(Refusal::Length)?;
+    if !pieces_fit(pieces) {
+        return Err(Refusal::Value);
+    }
+    let registers: &mut RegisterWords = registers.as_mut_array().ok_or(Refusal::Length)?;
+    may_begin(registers)?;
     let mut cpu = Cpu::new();
     cpu.begin(own, Ask::Change(size), &pieces_in(pieces));
     save(cpu, registers);

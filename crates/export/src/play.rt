@@ -39,17 +39,19 @@ fn refused_number(refused: Refused) -> u32
     }
 }
 
-fn played_words(played: Played) -> PlayedWords
-    ensures { PlayedBy played result }
-{
-    PlayedWords {
-        moves: played.moves as u64,
-        turns: played.turns,
-        events: played.events as u64,
-        notes: played.noted as u64,
-        passed: played.passed,
-        held: played.held,
-        spare: 0,
+impl From<Played> for PlayedWords {
+    ghost from_gives = { PlayedBy };
+
+    fn from(played: Played) -> PlayedWords {
+        PlayedWords {
+            moves: played.moves as u64,
+            turns: played.turns,
+            events: played.events as u64,
+            notes: played.noted as u64,
+            passed: played.passed,
+            held: played.held,
+            spare: 0,
+        }
     }
 }
 
@@ -80,7 +82,7 @@ pub extern "C" fn dezhavin_play(
     };
     match play_moves(cpus, blocks, lent, own, moves, kinds, notes) {
         Ok(played) => {
-            *out = played_words(played);
+            *out = played.into();
             0
         }
         Err(refused) => refused_number(refused),

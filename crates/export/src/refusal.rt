@@ -2,7 +2,7 @@
 ghost use Rattle.std.specs.Prelude.{◌≡◌};
 ghost use Rattle.export.specs.Calls.{loaded, number_of, refusal_of, status_of};
 
-use port::{NotReady, REGISTER_WORDS, restore};
+use port::{NotReady, RegisterWords, restore};
 use routes::Cpu;
 
 #[derive(Clone, Copy)]
@@ -19,11 +19,11 @@ pub enum Refusal {
     Busy,
 }
 
-impl Refusal {
-    pub fn number(self) -> u32
-        ensures { result ≡ number_of self }
-    {
-        match self {
+impl From<Refusal> for u32 {
+    ghost from_gives = { λ why n. n ≡ number_of why };
+
+    fn from(why: Refusal) -> u32 {
+        match why {
             Refusal::Number => 1,
             Refusal::Length => 2,
             Refusal::Registers => 3,
@@ -38,31 +38,27 @@ pub fn status(r: Result<(), Refusal>) -> u32
     ensures { result ≡ status_of r }
 {
     match r {
-        Ok(_) => 0,
-        Err(why) => why.number(),
+        Ok(()) => 0,
+        Err(why) => why.into(),
     }
 }
 
-pub fn refusal_of(why: NotReady) -> Refusal
-    ensures { result ≡ refusal_of why }
-{
-    match why {
-        NotReady::Number => Refusal::Number,
-        NotReady::Words => Refusal::Length,
-        NotReady::Registers => Refusal::Registers,
-        NotReady::Reply => Refusal::Value,
+impl From<NotReady> for Refusal {
+    ghost from_gives = { λ why r. r ≡ refusal_of why };
+
+    fn from(why: NotReady) -> Refusal {
+        match why {
+            NotReady::Number => Refusal::Number,
+            NotReady::Words => Refusal::Length,
+            NotReady::Registers => Refusal::Registers,
+            NotReady::Reply => Refusal::Value,
+        }
     }
 }
 
 // The processor in these registers.
-pub fn load(registers: &[u64]) -> Result<Cpu, Refusal>
+pub fn load(registers: &RegisterWords) -> Result<Cpu, Refusal>
     ensures { result ≡ loaded registers.now }
 {
-    if registers.len() != REGISTER_WORDS {
-        return Err(Refusal::Length);
-    }
-    match restore(registers) {
-        Some(cpu) => Ok(cpu),
-        None => Err(Refusal::Registers),
-    }
+    restore(registers).ok_or(Refusal::Registers)
 }

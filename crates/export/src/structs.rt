@@ -1,6 +1,6 @@
 // What a processor asks and tells, as C structs.
 ghost use Rattle.std.specs.Prelude.{◌≡◌};
-ghost use Rattle.export.specs.Structs.{act_words, answered_by, told_words};
+ghost use Rattle.export.specs.Structs.{act_words, told_words};
 
 use routes::Answer;
 use routes::act::Act;
@@ -40,50 +40,52 @@ const NO_ACT: ActWords = ActWords {
     new: 0,
 };
 
-pub fn act_words(a: Act) -> ActWords
-    ensures { result ≡ act_words a }
-{
-    match a {
-        Act::Pause => NO_ACT,
-        Act::Load { block, word } => ActWords {
-            kind: LOAD,
-            block,
-            word,
-            ..NO_ACT
-        },
-        Act::Store { block, word, x } => ActWords {
-            kind: STORE,
-            block,
-            word,
-            x,
-            ..NO_ACT
-        },
-        Act::Fence => ActWords {
-            kind: FENCE,
-            ..NO_ACT
-        },
-        Act::Swap {
-            block,
-            word,
-            old,
-            new,
-        } => ActWords {
-            kind: SWAP,
-            block,
-            word,
-            x: old,
-            new,
-            ..NO_ACT
-        },
-        Act::Obtain => ActWords {
-            kind: OBTAIN,
-            ..NO_ACT
-        },
-        Act::Release { block } => ActWords {
-            kind: RELEASE,
-            block,
-            ..NO_ACT
-        },
+impl From<Act> for ActWords {
+    ghost from_gives = { λ a w. w ≡ act_words a };
+
+    fn from(asked: Act) -> ActWords {
+        match asked {
+            Act::Pause => NO_ACT,
+            Act::Load { block, word } => ActWords {
+                kind: LOAD,
+                block,
+                word,
+                ..NO_ACT
+            },
+            Act::Store { block, word, x } => ActWords {
+                kind: STORE,
+                block,
+                word,
+                x,
+                ..NO_ACT
+            },
+            Act::Fence => ActWords {
+                kind: FENCE,
+                ..NO_ACT
+            },
+            Act::Swap {
+                block,
+                word,
+                old,
+                new,
+            } => ActWords {
+                kind: SWAP,
+                block,
+                word,
+                x: old,
+                new,
+                ..NO_ACT
+            },
+            Act::Obtain => ActWords {
+                kind: OBTAIN,
+                ..NO_ACT
+            },
+            Act::Release { block } => ActWords {
+                kind: RELEASE,
+                block,
+                ..NO_ACT
+            },
+        }
     }
 }
 
@@ -109,53 +111,42 @@ const FULL: u32 = 4;
 
 const NO: u32 = 5;
 
-fn answered(a: Answer) -> ToldWords
-    ensures { result ≡ answered_by a }
-{
-    match a {
-        Answer::Found(len, tells) => ToldWords {
-            kind: FOUND,
-            len: len as u32,
-            tells,
-            spare: 0,
-        },
-        Answer::Nothing => ToldWords {
-            kind: NOTHING,
-            len: 0,
-            tells: 0,
-            spare: 0,
-        },
-        Answer::Done => ToldWords {
-            kind: DONE,
-            len: 0,
-            tells: 0,
-            spare: 0,
-        },
-        Answer::Full => ToldWords {
-            kind: FULL,
-            len: 0,
-            tells: 0,
-            spare: 0,
-        },
-        Answer::No(why) => ToldWords {
-            kind: NO,
-            len: why as u32,
-            tells: 0,
-            spare: 0,
-        },
-    }
-}
+const NOT_YET: ToldWords = ToldWords {
+    kind: NOT_TOLD,
+    len: 0,
+    tells: 0,
+    spare: 0,
+};
 
-pub fn told_words(told: Option<Answer>) -> ToldWords
-    ensures { result ≡ told_words told }
-{
-    match told {
-        Some(a) => answered(a),
-        None => ToldWords {
-            kind: NOT_TOLD,
-            len: 0,
-            tells: 0,
-            spare: 0,
-        },
+impl From<Option<Answer>> for ToldWords {
+    ghost from_gives = { λ t w. w ≡ told_words t };
+
+    fn from(told: Option<Answer>) -> ToldWords {
+        match told {
+            None => NOT_YET,
+            Some(Answer::Found(len, tells)) => ToldWords {
+                kind: FOUND,
+                len: len as u32,
+                tells,
+                ..NOT_YET
+            },
+            Some(Answer::Nothing) => ToldWords {
+                kind: NOTHING,
+                ..NOT_YET
+            },
+            Some(Answer::Done) => ToldWords {
+                kind: DONE,
+                ..NOT_YET
+            },
+            Some(Answer::Full) => ToldWords {
+                kind: FULL,
+                ..NOT_YET
+            },
+            Some(Answer::No(why)) => ToldWords {
+                kind: NO,
+                len: why as u32,
+                ..NOT_YET
+            },
+        }
     }
 }

@@ -2,21 +2,17 @@
 ghost use Rattle.std.specs.Prelude.{◌≡◌};
 ghost use Rattle.export.specs.Turns.{ActDone, AfterDone};
 
-use crate::refusal::{Refusal, load, refusal_of};
-use crate::structs::{ActWords, ToldWords, act_words, told_words};
-use port::{after, next_act, save};
+use crate::refusal::{Refusal, load};
+use crate::structs::{ActWords, ToldWords};
+use port::{RegisterWords, after, next_act, save};
 
 pub fn ask(cpu: u32, registers: &[u64], own: &[u64], out: &mut ActWords) -> Result<(), Refusal>
     ensures { ActDone cpu registers.now own.now result out.entry.now out.exit.now }
 {
+    let registers: &RegisterWords = registers.as_array().ok_or(Refusal::Length)?;
     let c = load(registers)?;
-    match next_act(&c, cpu, own) {
-        Ok(a) => {
-            *out = act_words(a);
-            Ok(())
-        }
-        Err(why) => Err(refusal_of(why)),
-    }
+    *out = next_act(&c, cpu, own)?.into();
+    Ok(())
 }
 
 pub fn reply_to(
@@ -29,13 +25,10 @@ pub fn reply_to(
 ) -> Result<(), Refusal>
     ensures { AfterDone cpu cpus reply registers.old own.old out.old result registers.new own.new out.new }
 {
+    let registers: &mut RegisterWords = registers.as_mut_array().ok_or(Refusal::Length)?;
     let mut c = load(registers)?;
-    match after(&mut c, cpu, cpus, own, reply) {
-        Ok(told) => {
-            save(c, registers);
-            *out = told_words(told);
-            Ok(())
-        }
-        Err(why) => Err(refusal_of(why)),
-    }
+    let told = after(&mut c, cpu, cpus, own, reply)?;
+    save(c, registers);
+    *out = told.into();
+    Ok(())
 }

@@ -47,6 +47,7 @@ registers_in o = record { phase = low (slice_index o 0); job = job_in o; fields 
 abbrev pub registers_of : List ℕ → Option Registers
 registers_of o = cond (length o == 16 && narrow o 16) (Some (registers_in o)) None
 
+-- a processor with this under way
 abbrev pub with_work : Work → Cpu
 with_work k = record { work = k }
 

@@ -12,5 +12,5 @@ mod turn;
 pub use asking::asks;
 pub use names::state_name;
 pub use ok::work_ok;
-pub use registers::{REGISTER_WORDS, restore, save};
+pub use registers::{REGISTER_WORDS, RegisterWords, restore, save};
 pub use turn::{NotReady, after, next_act};

@@ -145,9 +145,8 @@ pub fn restore(words: &[u64]) -> Option<Cpu>
 }
 
 // So that it can be restored.
-pub fn save(cpu: Cpu, words: &mut [u64])
-    requires { length words.old ≡ 16 }
+pub fn save(cpu: Cpu, words: &mut RegisterWords)
     ensures { cpu_of words.new ≡ Some' cpu }
 {
-    words.copy_from_slice(&RegisterWords::from(Registers::from(cpu.work)));
+    *words = Registers::from(cpu.work).into();
 }

@@ -26,19 +26,56 @@ pub enum Check {
     Reject { why: Refusal },
 }
 
-// Piece k has passed: on to the next, or to the blocks that all of them need.
-fn passed(job: Job, k: u32, len: u8) -> UpdateNext
-    requires { (AtPiece job k) × (len ≤ 32) }
-    ensures { result ≡ passed_of job k len }
-{
-    let job = Job {
-        need: job.need + u32::from(len) / 4 + 1,
-        ..job
-    };
-    if k + 1 < job.size {
-        Continue((job, Phase::Check(Check::Piece { k: k + 1 })))
-    } else {
-        Continue((job, Phase::Obtain(Obtain::Get)))
+// Piece k of an update, which is not past its size, and its prefix, which is clean.
+#[derive(Clone, Copy)]
+struct InHand {
+    job: Job,
+    k: u32,
+    prefix: Prefix,
+    ghost at: { AtPiece job k },
+}
+
+impl InHand {
+    // It has passed: on to the next, or to the blocks that all of them need.
+    fn passed(self) -> UpdateNext
+        ensures { result ≡ passed_of self.job self.k self.prefix.len }
+    {
+        let InHand { job, k, prefix } = self;
+        let job = Job {
+            need: job.need + u32::from(prefix.len) / 4 + 1,
+            ..job
+        };
+        if k + 1 < job.size {
+            Continue((job, Phase::Check(Check::Piece { k: k + 1 })))
+        } else {
+            Continue((job, Phase::Obtain(Obtain::Get)))
+        }
+    }
+
+    // On from a node of this level on the way to its route; there is none where the way ends.
+    fn enter(self, level: u8, node: u32) -> Result<UpdateNext, Refusal>
+        ensures { result ≡ entered self.job self.k self.prefix.len level node }
+    {
+        let InHand { job, k, prefix } = self;
+        if node == 0 {
+            return Err(Refusal::AbsentRoute);
+        }
+        let next = if level == prefix.len / 4 {
+            Check::Route { k, node }
+        } else {
+            Check::Slot { k, level, node }
+        };
+        Ok(Continue((job, Phase::Check(next))))
+    }
+
+    // Its route is there, or not.
+    fn find_route(self, word: u64) -> Result<UpdateNext, Refusal>
+        ensures { result ≡ found_route self.job self.k self.prefix.len word }
+    {
+        if word == 0 {
+            return Err(Refusal::AbsentRoute);
+        }
+        Ok(self.passed())
     }
 }
 
@@ -49,39 +86,15 @@ fn look_at(job: Job, k: u32, own: &OwnWords) -> Result<UpdateNext, Refusal>
 {
     let piece = piece_at(own, k);
     let prefix = make_prefix(piece.len, piece.bits)?;
+    let hand = InHand { job, k, prefix };
     if piece.puts {
-        return Ok(passed(job, k, prefix.len));
+        return Ok(hand.passed());
     }
     match last_before(own, k) {
-        Earlier::Put => Ok(passed(job, k, prefix.len)),
+        Earlier::Put => Ok(hand.passed()),
         Earlier::Taken => Err(Refusal::AbsentRoute),
         Earlier::Never => Ok(Continue((job, Phase::Check(Check::Root { k })))),
     }
-}
-
-// On from a node of this level on the way to the route of piece k; there is none where the way ends.
-fn enter(job: Job, k: u32, len: u8, level: u8, node: u32) -> Result<UpdateNext, Refusal>
-    ensures { result ≡ entered job k len level node }
-{
-    if node == 0 {
-        return Err(Refusal::AbsentRoute);
-    }
-    if level == len / 4 {
-        Ok(Continue((job, Phase::Check(Check::Route { k, node }))))
-    } else {
-        Ok(Continue((job, Phase::Check(Check::Slot { k, level, node }))))
-    }
-}
-
-// The route of piece k is there, or not.
-fn find_route(job: Job, k: u32, len: u8, word: u64) -> Result<UpdateNext, Refusal>
-    requires { (AtPiece job k) × (len ≤ 32) }
-    ensures { result ≡ found_route job k len word }
-{
-    if word == 0 {
-        return Err(Refusal::AbsentRoute);
-    }
-    Ok(passed(job, k, len))
 }
 
 // A refusal leads to Reject.
@@ -108,9 +121,13 @@ fn check_root<M: Memory>(job: Job, k: u32, w: &mut M, p: u32, own: &OwnWords) ->
     ensures moved { CheckMoved p job (AtRoot k) (M.mem w.old) own.now result (M.mem w.new) }
     ensures unseen { M.seen w.new ≡ M.seen w.old }
 {
-    let prefix = prefix_at(own, k);
+    let hand = InHand {
+        job,
+        k,
+        prefix: prefix_at(own, k),
+    };
     let root = block_of(load(w, p, HEADER, ROOT));
-    decided(job, enter(job, k, prefix.len, 0, root))
+    decided(job, hand.enter(0, root))
 }
 
 fn check_slot<M: Memory>(
@@ -126,9 +143,13 @@ fn check_slot<M: Memory>(
     ensures moved { CheckMoved p job (AtSlot k level node) (M.mem w.old) own.now result (M.mem w.new) }
     ensures unseen { M.seen w.new ≡ M.seen w.old }
 {
-    let prefix = prefix_at(own, k);
-    let child = block_of(load(w, p, node, nib(level, prefix.bits)));
-    decided(job, enter(job, k, prefix.len, level + 1, child))
+    let hand = InHand {
+        job,
+        k,
+        prefix: prefix_at(own, k),
+    };
+    let child = block_of(load(w, p, node, nib(level, hand.prefix.bits)));
+    decided(job, hand.enter(level + 1, child))
 }
 
 fn check_route<M: Memory>(
@@ -143,10 +164,14 @@ fn check_route<M: Memory>(
     ensures moved { CheckMoved p job (AtRoute k node) (M.mem w.old) own.now result (M.mem w.new) }
     ensures unseen { M.seen w.new ≡ M.seen w.old }
 {
-    let prefix = prefix_at(own, k);
-    let place = ROUTES + route_place(prefix.len, prefix.bits);
+    let hand = InHand {
+        job,
+        k,
+        prefix: prefix_at(own, k),
+    };
+    let place = ROUTES + route_place(hand.prefix.len, hand.prefix.bits);
     let word = load(w, p, node, place);
-    decided(job, find_route(job, k, prefix.len, word))
+    decided(job, hand.find_route(word))
 }
 
 pub fn step_check<M: Memory>(job: Job, s: Check, w: &mut M, p: u32, own: &OwnWords) -> UpdateNext

@@ -61,13 +61,15 @@ fn read_pieces(words: &[u64], at: usize, count: usize, row: &mut [Piece])
 }
 
 // What is to be done of a move.
-fn doing_of(listed: Listed) -> Doing
-    ensures { result ≡ doing_of listed }
-{
-    match listed {
-        Listed::Go { cpu, turns } => Doing::Going { cpu, left: turns },
-        Listed::Arrive { cpu, stores } => Doing::Arriving { cpu, left: stores },
-        _ => Doing::Reading,
+impl From<Listed> for Doing {
+    ghost from_gives = { λ l r. r ≡ doing_of l };
+
+    fn from(listed: Listed) -> Doing {
+        match listed {
+            Listed::Go { cpu, turns } => Doing::Going { cpu, left: turns },
+            Listed::Arrive { cpu, stores } => Doing::Arriving { cpu, left: stores },
+            _ => Doing::Reading,
+        }
     }
 }
 
@@ -124,14 +126,15 @@ impl MoveList<'_> {
 
     // The next move is taken up.
     fn take_up(&mut self, busy: &[bool], row: &mut [Piece; 8]) -> Option<Move>
-        ensures { TakenUp busy.now self.old.cpus self.old.words.now self.old.at result self.new row.new }
+        ensures took { TakenUp busy.now self.old.cpus self.old.words.now self.old.at result self.new row.new }
+        ensures same { self.new.words.now ≡ self.old.words.now }
     {
         let at = self.at;
         let Some(listed) = read_move(self.words, at, self.cpus) else {
             return Some(Move::Over);
         };
         self.at += listed.width();
-        self.doing = doing_of(listed);
+        self.doing = Doing::from(listed);
         match listed {
             Listed::Find { cpu, address } => self.begin(busy, cpu, Ask::Find(address)),
             Listed::Change { cpu, size } => {
@@ -144,7 +147,9 @@ impl MoveList<'_> {
 
     // What comes next by the present move, or by the next one; none where that has nothing.
     pub(crate) fn advance(&mut self, busy: &[bool], row: &mut [Piece; 8]) -> Option<Move>
-        ensures { Advanced (comes_of self.old.doing (busy_of self.old.doing busy.now)) busy.now self.old result self.new row.new }
+        ensures comes { Advanced (comes_of self.old.doing (busy_of self.old.doing busy.now)) busy.now self.old result self.new row.new }
+        ensures forth { result ≡ None → (self.old.at < self.new.at) × (self.old.at < length self.old.words.now) }
+        ensures same { self.new.words.now ≡ self.old.words.now }
     {
         // not `or_else`: of what its closure changes nothing would be known
         if let Some(next) = self.go_on(busy) {

@@ -7,12 +7,11 @@ use world::{Move, Schedule};
 
 impl Schedule for MoveList<'_> {
     fn next(&mut self, busy: &[bool; MOST_CPUS], pieces: &mut [Piece; 8]) -> Move {
-        for _ in 0..u64::MAX {
+        loop {
             if let Some(next) = self.advance(busy, pieces) {
                 return next;
             }
         }
-        Move::Over
     }
 
     fn asked(&mut self, _cpu: u32, _act: Act, _reply: u64) {}

@@ -18,13 +18,10 @@ pub trait Guard: Memory {
 pub fn may_step<G: Guard>(w: &G, p: u32, cpu: &Cpu, own: &[u64]) -> bool
     ensures { T result → Ready (G.Memory.mem w.now) p cpu.now own.now }
 {
-    if own.len() != 4096 || p >= 16 {
-        return false;
-    }
-    if !work_ok(cpu.work, own) {
-        return false;
-    }
-    w.may_do(p, asks(p, cpu.work, own))
+    own.len() == 4096
+        && p < 16
+        && work_ok(cpu.work, own)
+        && w.may_do(p, asks(p, cpu.work, own))
 }
 
 // The turn may not be taken: something would be touched that may not be.
@@ -40,10 +37,7 @@ pub fn guarded_step<G: Guard>(
 ) -> Result<Option<Answer>, NotAllowed>
     ensures { GuardedStep p (G.Memory.mem w.old) cpu.old own.old result (G.Memory.mem w.new) cpu.new own.new }
 {
-    if !w.may_do(p, Act::Fence) {
-        return Err(NotAllowed);
-    }
-    if !may_step(w, p, cpu, own) {
+    if !w.may_do(p, Act::Fence) || !may_step(w, p, cpu, own) {
         return Err(NotAllowed);
     }
     Ok(cpu.step(w, p, own))

@@ -127,7 +127,7 @@ fn change(table: &mut PlainTable, size: u32, pieces: &[Piece]) -> Answer
     ensures { AskTold (Ask.Change size) pieces.now table.old result table.new }
 {
     if size > 8 {
-        return Answer::No(Refusal::PieceCount.number());
+        return Answer::No(u8::from(Refusal::PieceCount));
     }
     outcome(table.change(&pieces[..size as usize]))
 }
@@ -138,7 +138,7 @@ fn outcome(res: Result<(), ChangeError>) -> Answer
 {
     match res {
         Ok(()) => Answer::Done,
-        Err(ChangeError::Refused(refusal)) => Answer::No(refusal.number()),
+        Err(ChangeError::Refused(refusal)) => Answer::No(u8::from(refusal)),
         Err(ChangeError::NoRoom) => Answer::Full,
     }
 }

@@ -5,30 +5,21 @@ ghost use Rattle.own.specs.Pieces.{piece_of};
 ghost use Rattle.own.specs.Edits.{blank as blank_words, blanked, route_set, pointed, levels_left, point_all, levels_all, edited, levels_edited};
 
 use super::image::is_empty;
-use super::layout::{FRESH, IMAGE, image_at};
+use super::layout::{FRESH, IMAGE, OwnWords, image_at};
 use super::piece::{PieceWords, piece_at};
-use words::{nib, route_place, route_word};
-
-// The low 32 bits of a word.
-fn low_half(x: u64) -> u32
-    ensures { result ≡ x % 2 ^ 32 }
-{
-    (x % 0x1_0000_0000) as u32
-}
+use words::{low_half, nib, route_place, route_word};
 
 // So many words from start on become 0.
-fn blank(own: &mut [u64], start: usize, many: usize)
-    requires { (length own.old ≡ 4096) × (start + many ≤ 4096) }
+fn blank(own: &mut OwnWords, start: usize, many: usize)
+    requires { start + many ≤ 4096 }
     ensures { own.new ≡ blank_words own.old start many }
 {
-    for i in 0..many {
-        own[start + i] = 0;
-    }
+    own[start..start + many].fill(0);
 }
 
 // The images of the levels from have to deep, of nodes that do not exist, become noughts.
-fn blank_levels(own: &mut [u64], have: u8, deep: u8)
-    requires { (length own.old ≡ 4096) × ((have ≤ 9) × (deep ≤ 8)) }
+fn blank_levels(own: &mut OwnWords, have: u8, deep: u8)
+    requires { (have ≤ 9) × (deep ≤ 8) }
     ensures { own.new ≡ blanked own.old have deep }
 {
     let levels = (deep + 1).saturating_sub(have);
@@ -36,8 +27,8 @@ fn blank_levels(own: &mut [u64], have: u8, deep: u8)
 }
 
 // The route word of a piece in the image of its level becomes the route's, or 0.
-fn set_route(own: &mut [u64], piece: PieceWords)
-    requires { (length own.old ≡ 4096) × (piece.len ≤ 32) }
+fn set_route(own: &mut OwnWords, piece: PieceWords)
+    requires { piece.len ≤ 32 }
     ensures { own.new ≡ route_set own.old piece }
 {
     let len = piece.len as u8;
@@ -50,8 +41,8 @@ fn set_route(own: &mut [u64], piece: PieceWords)
 }
 
 // Level d points at the new block of the level below, or at 0 if that holds nothing: then it is cut off. How many levels are left.
-fn point(own: &mut [u64], a: u32, first: u32, d: u8, levels: u32) -> u32
-    requires { (length own.old ≡ 4096) × ((d < 8) × (first ≤ 72)) }
+fn point(own: &mut OwnWords, a: u32, first: u32, d: u8, levels: u32) -> u32
+    requires { (d < 8) × (first ≤ 72) }
     ensures after { own.new ≡ pointed own.old a first d }
     ensures left { result ≡ levels_left own.old d levels }
 {
@@ -66,8 +57,8 @@ fn point(own: &mut [u64], a: u32, first: u32, d: u8, levels: u32) -> u32
 }
 
 // All levels above the last, from the bottom up. How many levels are left.
-fn point_all(own: &mut [u64], a: u32, first: u32, deep: u8) -> u32
-    requires { (length own.old ≡ 4096) × ((deep ≤ 8) × (first ≤ 72)) }
+fn point_all(own: &mut OwnWords, a: u32, first: u32, deep: u8) -> u32
+    requires { (deep ≤ 8) × (first ≤ 72) }
     ensures after { own.new ≡ point_all own.old a first deep }
     ensures left { result ≡ levels_all own.old a first deep (deep + 1) }
     ensures some { 1 ≤ result }
@@ -81,8 +72,9 @@ fn point_all(own: &mut [u64], a: u32, first: u32, deep: u8) -> u32
 }
 
 // What piece k makes of the images on its way, of which so many were read; its new nodes take the blocks from number first on. How many levels are left.
-pub fn edit_piece(own: &mut [u64], k: u32, have: u8, first: u32) -> u32
-    requires own { (length own.old ≡ 4096) × ((k < 8) × ((have ≤ 9) × (first ≤ 72))) }
+#[tactic(auto, unfolding(crate::specs::Edits::prepared, crate::specs::Edits::edited, crate::specs::Edits::levels_edited))]
+pub fn edit_piece(own: &mut OwnWords, k: u32, have: u8, first: u32) -> u32
+    requires own { (k < 8) × ((have ≤ 9) × (first ≤ 72)) }
     requires short { (piece_of (words_of own.old) k).len ≤ 32 }
     ensures after { own.new ≡ edited own.old k have first }
     ensures left { result ≡ levels_edited own.old k have first }

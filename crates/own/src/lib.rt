@@ -10,5 +10,5 @@ mod piece;
 pub use block::{fresh_at, keep_fresh, note_path, retired_at};
 pub use edit::edit_piece;
 pub use image::{image_word, is_empty, note_word};
-pub use layout::{FRESH, IMAGE, PIECES, RETIRED, image_at};
+pub use layout::{FRESH, IMAGE, OWN_WORDS, OwnWords, PIECES, RETIRED, image_at};
 pub use piece::{Earlier, PieceWords, last_before, piece_at, reads_what_it_wrote, write_piece};

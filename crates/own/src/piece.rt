@@ -3,7 +3,7 @@ ghost use Rattle.std.specs.Prelude.{◌≡◌, ◌<◌, length};
 ghost use Rattle.own.specs.Layout.{words_of};
 ghost use Rattle.own.specs.Pieces.{piece_of, piece_written, later_of, earlier_of, ReadsWhatItWrote};
 
-use super::layout::piece_word_at;
+use super::layout::{OwnWords, piece_word_at};
 
 // A piece as it was asked for; nothing is known of its numbers yet.
 #[derive(Clone, Copy)]
@@ -23,8 +23,9 @@ pub enum Earlier {
 }
 
 // Writes a piece as number k.
-pub fn write_piece(own: &mut [u64], k: u32, piece: PieceWords)
-    requires { (length own.old ≡ 4096) × (k < 8) }
+#[tactic(auto, unfolding(crate::specs::Pieces::piece_written))]
+pub fn write_piece(own: &mut OwnWords, k: u32, piece: PieceWords)
+    requires { k < 8 }
     ensures { own.new ≡ piece_written own.old k piece }
 {
     own[piece_word_at(k, 0)] = if piece.puts { 1 } else { 0 };
@@ -34,8 +35,8 @@ pub fn write_piece(own: &mut [u64], k: u32, piece: PieceWords)
 }
 
 // Piece k.
-pub fn piece_at(own: &[u64], k: u32) -> PieceWords
-    requires { (length own.now ≡ 4096) × (k < 8) }
+pub fn piece_at(own: &OwnWords, k: u32) -> PieceWords
+    requires { k < 8 }
     ensures { result ≡ piece_of (words_of own.now) k }
 {
     PieceWords {
@@ -62,8 +63,8 @@ fn later(seen: Earlier, piece: PieceWords, other: PieceWords) -> Earlier
 }
 
 // What the last piece before k does that has the length and bits of piece k.
-pub fn last_before(own: &[u64], k: u32) -> Earlier
-    requires { (length own.now ≡ 4096) × (k < 8) }
+pub fn last_before(own: &OwnWords, k: u32) -> Earlier
+    requires { k < 8 }
     ensures { result ≡ earlier_of (words_of own.now) (piece_of (words_of own.now) k) k }
 {
     let piece = piece_at(own, k);

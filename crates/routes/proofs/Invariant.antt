@@ -35,7 +35,6 @@ pub mod HolderSteps
 pub mod HolderTurns
 pub mod Holding
 pub mod InTime
-pub mod Joining
 pub mod Kinds
 pub mod Local
 pub mod LockTurns

@@ -1,4 +1,5 @@
 pub mod Acts
+pub mod Nexts
 pub mod NewBlocks
 pub mod Lookups
 pub mod Jobs

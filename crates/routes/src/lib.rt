@@ -9,6 +9,7 @@ ghost use Rattle.routes.specs.Promise.{FindsLongest, OneRoute, OnlyWhatFits, Old
 ghost use Rattle.routes.specs.Examples.{ExamplesHold};
 ghost use Rattle.routes.specs.Machine.Cpus.{Ready, Stepped, Begun};
 
+mod access;
 pub mod act;
 mod header;
 pub mod laws;
@@ -20,10 +21,12 @@ mod refusal;
 pub mod update;
 pub mod work;
 
-use lookup::{LookupNext, step_lookup};
+use lookup::step_lookup;
+use own::OwnWords;
 pub use prefix::Prefix;
-pub use refusal::{Refusal, make_prefix};
-use update::{UpdateNext, step_update};
+pub use refusal::{Refusal, UnknownRefusal, make_prefix};
+use std::ops::ControlFlow::{Break, Continue};
+use update::step_update;
 use work::{Work, begin_update, note_pieces};
 
 #[derive(Clone, Copy)]
@@ -136,6 +139,12 @@ impl Cpu {
                 self.work = Work::Lookup(lookup::Lookup::Epoch { address });
             }
             Ask::Change(size) => {
+                let Some(own) = own.as_mut_array() else {
+                    unreachable!()
+                };
+                let Some(pieces) = pieces.as_array() else {
+                    unreachable!()
+                };
                 note_pieces(own, pieces);
                 self.work = begin_update(size);
             }
@@ -149,28 +158,36 @@ impl Cpu {
         ensures stepped { Stepped p (M.mem w.old) self.old own.old result (M.mem w.new) self.new own.new }
         ensures unseen { M.seen w.new ≡ M.seen w.old }
     {
-        match self.work {
-            Work::Idle => None,
-            Work::Lookup(l) => match step_lookup(l, w, p) {
-                LookupNext::On(next) => {
-                    self.work = Work::Lookup(next);
-                    None
-                }
-                LookupNext::Told(answer) => {
-                    self.work = Work::Idle;
-                    Some(answer)
-                }
-            },
-            Work::Update(job, phase) => match step_update(job, phase, w, p, own) {
-                UpdateNext::On(next, then) => {
-                    self.work = Work::Update(next, then);
-                    None
-                }
-                UpdateNext::Told(answer) => {
-                    self.work = Work::Idle;
-                    Some(answer)
-                }
-            },
+        let Some(own) = own.as_mut_array() else {
+            unreachable!()
+        };
+        self.take_turn(w, p, own)
+    }
+
+    // The same, on own words whose type says how many they are.
+    fn take_turn<M: Memory>(&mut self, w: &mut M, p: u32, own: &mut OwnWords) -> Option<Answer>
+        requires once { 1 ≤ (M.mem w.old).left }
+        requires ready { Ready (M.mem w.old) p self.old own.old }
+        ensures stepped { Stepped p (M.mem w.old) self.old own.old result (M.mem w.new) self.new own.new }
+        ensures unseen { M.seen w.new ≡ M.seen w.old }
+    {
+        let next = match self.work {
+            Work::Idle => return None,
+            Work::Lookup(l) => step_lookup(l, w, p).map_continue(Work::Lookup),
+            Work::Update(job, phase) => {
+                let next = step_update(job, phase, w, p, own);
+                next.map_continue(|(job, phase)| Work::Update(job, phase))
+            }
+        };
+        match next {
+            Continue(work) => {
+                self.work = work;
+                None
+            }
+            Break(answer) => {
+                self.work = Work::Idle;
+                Some(answer)
+            }
         }
     }
 }

@@ -5,9 +5,11 @@ ghost use Rattle.routes.specs.Machine.Acts.{MayDo};
 ghost use Rattle.routes.specs.Machine.Lookups.{LookupOk, LookupMoved, lookup_act};
 ghost use Rattle.routes.specs.Tree.Walks.{better as better_of};
 
-use super::header::{announce, leave, load_epoch, load_root};
-use super::node::load_slot;
+use super::access::{load, swap};
+use super::header::{ACTIVE, EPOCH, HEADER, ROOT};
 use super::{Answer, Memory};
+use std::ops::ControlFlow;
+use std::ops::ControlFlow::{Break, Continue};
 use words::{Slot, block_of, nib};
 
 // Where a lookup is: its address, the epoch that it loaded, and on its way down the level, the node and the longest route so far.
@@ -37,11 +39,8 @@ pub enum Lookup {
     },
 }
 
-#[derive(Clone, Copy)]
-pub enum LookupNext {
-    On(Lookup),
-    Told(Answer),
-}
+// A lookup that is still under way, or its answer.
+pub type LookupNext = ControlFlow<Answer, Lookup>;
 
 // The route of a slot at this level, if it has one, is longer than what was found above.
 fn better(level: u8, slot: Slot, best: Answer) -> Answer
@@ -62,22 +61,23 @@ pub fn step_lookup<M: Memory>(l: Lookup, w: &mut M, p: u32) -> LookupNext
 {
     match l {
         Lookup::Epoch { address } => {
-            let epoch = load_epoch(w, p);
-            LookupNext::On(Lookup::Announce { address, epoch })
+            let epoch = load(w, p, HEADER, EPOCH);
+            Continue(Lookup::Announce { address, epoch })
         }
         Lookup::Announce { address, epoch } => {
-            let _was = announce(w, p, epoch);
-            LookupNext::On(Lookup::Root { address, epoch })
+            // all others see the announcement, for a swap is also a fence
+            let _was = swap(w, p, HEADER, ACTIVE + p, 0, epoch + 1);
+            Continue(Lookup::Root { address, epoch })
         }
         Lookup::Root { address, epoch } => {
-            let node = block_of(load_root(w, p));
+            let node = block_of(load(w, p, HEADER, ROOT));
             if node == 0 {
-                LookupNext::On(Lookup::Leave {
+                Continue(Lookup::Leave {
                     epoch,
                     best: Answer::Nothing,
                 })
             } else {
-                LookupNext::On(Lookup::Node {
+                Continue(Lookup::Node {
                     address,
                     epoch,
                     level: 0,
@@ -93,12 +93,12 @@ pub fn step_lookup<M: Memory>(l: Lookup, w: &mut M, p: u32) -> LookupNext
             node,
             best,
         } => {
-            let slot = Slot::unpack(load_slot(w, p, node, nib(level, address)));
+            let slot = Slot::unpack(load(w, p, node, nib(level, address)));
             let best = better(level, slot, best);
             if slot.child == 0 || level == 8 {
-                LookupNext::On(Lookup::Leave { epoch, best })
+                Continue(Lookup::Leave { epoch, best })
             } else {
-                LookupNext::On(Lookup::Node {
+                Continue(Lookup::Node {
                     address,
                     epoch,
                     level: level + 1,
@@ -108,8 +108,8 @@ pub fn step_lookup<M: Memory>(l: Lookup, w: &mut M, p: u32) -> LookupNext
             }
         }
         Lookup::Leave { epoch, best } => {
-            let _was = leave(w, p, epoch);
-            LookupNext::Told(best)
+            let _was = swap(w, p, HEADER, ACTIVE + p, epoch + 1, 0);
+            Break(best)
         }
     }
 }

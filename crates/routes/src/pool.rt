@@ -1,19 +1,19 @@
-// Blocks from the pool and back to it, and fences. Each function asks the memory for one thing.
-ghost use Rattle.std.specs.Prelude.{◌≡◌, ◌<◌, length, slice_set};
+// Blocks from the pool.
+ghost use Rattle.std.specs.Prelude.{◌≡◌, ◌<◌, slice_set};
 ghost use Rattle.own.specs.Layout.{fresh_at};
-ghost use Rattle.routes.specs.declared.act.Act.TheVariants.{Fence, Obtain, Release};
+ghost use Rattle.routes.specs.declared.act.Act.TheVariants.{Obtain};
 ghost use Rattle.routes.specs.Machine.Acts.{MayDo, Did};
 ghost use Rattle.routes.specs.Machine.NewBlocks.{reply_of};
 
 use super::Memory;
-use own::keep_fresh;
+use own::{OwnWords, keep_fresh};
 
 // A block that was got in this turn and that nobody else knows. It cannot be let go: it moves to the fresh blocks among the own words.
 pub struct NewBlock(u32);
 
 impl NewBlock {
-    pub fn keep(self, own: &mut [u64], at: u32)
-        requires { (length own.old ≡ 4096) × (at < 72) }
+    pub fn keep(self, own: &mut OwnWords, at: u32)
+        requires { at < 72 }
         ensures { own.new ≡ slice_set own.old (fresh_at at) self.0 }
     {
         let NewBlock(block) = self;
@@ -26,25 +26,5 @@ pub fn obtain<M: Memory>(w: &mut M, p: u32) -> Option<NewBlock>
     ensures did { Did p Obtain (M.mem w.old) (reply_of result) (M.mem w.new) }
     ensures unseen { M.seen w.new ≡ M.seen w.old }
 {
-    match w.obtain(p) {
-        Some(block) => Some(NewBlock(block)),
-        None => None,
-    }
-}
-
-pub fn give_back<M: Memory>(w: &mut M, p: u32, block: u32)
-    requires { MayDo (M.mem w.old) p (Release block) }
-    ensures did { Did p (Release block) (M.mem w.old) 0 (M.mem w.new) }
-    ensures unseen { M.seen w.new ≡ M.seen w.old }
-{
-    w.release(p, block);
-}
-
-// All that this processor stored has arrived.
-pub fn fence<M: Memory>(w: &mut M, p: u32)
-    requires { MayDo (M.mem w.old) p Fence }
-    ensures did { Did p Fence (M.mem w.old) 0 (M.mem w.new) }
-    ensures unseen { M.seen w.new ≡ M.seen w.old }
-{
-    w.fence(p);
+    w.obtain(p).map(NewBlock)
 }

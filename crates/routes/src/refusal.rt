@@ -1,25 +1,43 @@
 // Why a change is turned away.
-ghost use Rattle.std.specs.Prelude.{◌≡◌};
-ghost use Rattle.routes.specs.Refusals.{number_of, PrefixOrRefusal};
+ghost use Rattle.routes.specs.Refusals.{Numbers, Numbered, PrefixOrRefusal};
 
 use super::prefix::Prefix;
 
-#[derive(Clone, Copy)]
+#[derive(Clone, Copy, PartialEq, Eq)]
 pub enum Refusal {
     PieceCount,
     UncleanPrefix,
     AbsentRoute,
 }
 
-impl Refusal {
-    // The number by which it is told.
-    pub fn number(self) -> u8
-        ensures { result ≡ number_of self }
-    {
-        match self {
+// A number by which no refusal is told.
+#[derive(Clone, Copy, PartialEq, Eq)]
+pub struct UnknownRefusal(pub u8);
+
+// The number by which it is told.
+impl From<Refusal> for u8 {
+    ghost from_gives = { Numbers };
+
+    fn from(why: Refusal) -> u8 {
+        match why {
             Refusal::PieceCount => 1,
             Refusal::UncleanPrefix => 2,
             Refusal::AbsentRoute => 3,
+        }
+    }
+}
+
+impl TryFrom<u8> for Refusal {
+    type Error = UnknownRefusal;
+
+    ghost try_from_gives = { Numbered };
+
+    fn try_from(number: u8) -> Result<Refusal, UnknownRefusal> {
+        match number {
+            1 => Ok(Refusal::PieceCount),
+            2 => Ok(Refusal::UncleanPrefix),
+            3 => Ok(Refusal::AbsentRoute),
+            _ => Err(UnknownRefusal(number)),
         }
     }
 }

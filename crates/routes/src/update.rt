@@ -5,6 +5,9 @@ ghost use Rattle.routes.specs.Machine.Updates.{UpdateReady, UpdateMoved, after_l
 use super::header::try_lock;
 use super::refusal::Refusal;
 use super::{Answer, Memory};
+use own::OwnWords;
+use std::ops::ControlFlow;
+use std::ops::ControlFlow::{Break, Continue};
 
 pub mod build;
 pub mod check;
@@ -33,11 +36,8 @@ pub enum Phase {
     Finish(finish::Finish),
 }
 
-#[derive(Clone, Copy)]
-pub enum UpdateNext {
-    On(job::Job, Phase),
-    Told(Answer),
-}
+// An update that is still under way, or its answer.
+pub type UpdateNext = ControlFlow<Answer, (job::Job, Phase)>;
 
 // The lock was free, so it is ours now; or it has to be tried again.
 fn after_lock(was: u64) -> Phase
@@ -55,23 +55,23 @@ pub fn step_update<M: Memory>(
     phase: Phase,
     w: &mut M,
     p: u32,
-    own: &mut [u64],
+    own: &mut OwnWords,
 ) -> UpdateNext
     requires ready { UpdateReady (M.mem w.old) p job phase own.old }
     ensures moved { UpdateMoved p job phase (M.mem w.old) own.old result (M.mem w.new) own.new }
     ensures unseen { M.seen w.new ≡ M.seen w.old }
 {
     match phase {
-        Phase::Refuse => UpdateNext::Told(Answer::No(Refusal::PieceCount.number())),
-        Phase::Lock => UpdateNext::On(job, after_lock(try_lock(w, p))),
+        Phase::Refuse => Break(Answer::No(u8::from(Refusal::PieceCount))),
+        Phase::Lock => Continue((job, after_lock(try_lock(w, p)))),
         Phase::Check(s) => check::step_check(job, s, w, p, own),
         Phase::Obtain(s) => obtain::step_obtain(job, s, w, p, own),
         Phase::Recycle(s) => recycle::step_recycle(job, s, w, p, own),
-        Phase::Scan(s) => UpdateNext::On(job, scan::step_scan(s, w, p)),
+        Phase::Scan(s) => Continue((job, scan::step_scan(s, w, p))),
         Phase::Build(s) => build::step_build(job, s, w, p, own),
-        Phase::Publish(s) => UpdateNext::On(job, publish::step_publish(job, s, w, p)),
-        Phase::Retire(s) => UpdateNext::On(job, retire::step_retire(job, s, w, p, own)),
-        Phase::Reclaim(s) => UpdateNext::On(job, reclaim::step_reclaim(job, s, w, p)),
+        Phase::Publish(s) => Continue((job, publish::step_publish(job, s, w, p))),
+        Phase::Retire(s) => Continue((job, retire::step_retire(job, s, w, p, own))),
+        Phase::Reclaim(s) => Continue((job, reclaim::step_reclaim(job, s, w, p))),
         Phase::Finish(s) => finish::step_finish(job, s, w, p, own),
     }
 }

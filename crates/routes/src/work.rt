@@ -1,12 +1,12 @@
 // What a processor has under way, and how it begins.
-ghost use Rattle.std.specs.Prelude.{◌≡◌, length};
-ghost use Rattle.routes.specs.Machine.Begins.{stored as stored_of, noted as noted_of, begin_update, PieceFits, PiecesFit};
+ghost use Rattle.std.specs.Prelude.{◌≡◌};
+ghost use Rattle.routes.specs.Machine.Begins.{noted as noted_of, begin_update, PiecesFit, StoredAs};
 
 use super::Piece;
 use super::lookup::Lookup;
 use super::update::Phase;
 use super::update::job::Job;
-use own::{PieceWords, write_piece};
+use own::{OwnWords, PieceWords, write_piece};
 
 #[derive(Clone, Copy)]
 pub enum Work {
@@ -16,26 +16,26 @@ pub enum Work {
 }
 
 // A piece as it stands among the own words.
-fn stored(piece: Piece) -> PieceWords
-    ensures value { result ≡ stored_of piece }
-    ensures fits { PieceFits piece }
-{
-    PieceWords {
-        puts: piece.puts,
-        len: piece.len as u64,
-        bits: piece.bits as u64,
-        tells: piece.tells as u64,
+impl From<Piece> for PieceWords {
+    ghost from_gives = { StoredAs };
+
+    fn from(piece: Piece) -> PieceWords {
+        PieceWords {
+            puts: piece.puts,
+            len: u64::from(piece.len),
+            bits: u64::from(piece.bits),
+            tells: u64::from(piece.tells),
+        }
     }
 }
 
 // All eight pieces of the lent row, among the own words.
-pub fn note_pieces(own: &mut [u64], pieces: &[Piece])
-    requires { (length own.old ≡ 4096) × (length pieces.now ≡ 8) }
+pub fn note_pieces(own: &mut OwnWords, pieces: &[Piece; 8])
     ensures words { own.new ≡ noted_of pieces.now own.old 8 }
     ensures fits { PiecesFit pieces.now 8 }
 {
-    for k in 0..8 {
-        write_piece(own, k, stored(pieces[k as usize]));
+    for (k, piece) in (0..).zip(pieces) {
+        write_piece(own, k, PieceWords::from(*piece));
     }
 }
 
@@ -45,11 +45,7 @@ pub fn begin_update(size: u32) -> Work
 {
     let job = Job {
         size,
-        need: 0,
-        got: 0,
-        used: 0,
-        retired: 0,
-        root: 0,
+        ..Job::default()
     };
     if size == 0 || size > 8 {
         Work::Update(job, Phase::Refuse)

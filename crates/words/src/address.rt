@@ -3,6 +3,7 @@ ghost use Rattle.std.specs.Prelude.{◌≡◌, ◌<◌, ◌≤◌};
 ghost use Rattle.words.specs.Address.{nib as nib_of, place as place_of, candidate as candidate_of};
 
 // The four bits of the address a by which level d decides.
+#[tactic(auto, unfolding(crate::specs::Address::nib))]
 pub fn nib(d: u8, a: u32) -> u32
     requires { d ≤ 8 }
     ensures value { result ≡ nib_of d a }

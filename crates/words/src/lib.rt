@@ -5,4 +5,4 @@ mod address;
 mod slot;
 
 pub use address::{candidate, nib, route_place};
-pub use slot::{Fit, Slot, best_fit, block_of, route_word, unpacks_what_it_packs};
+pub use slot::{Fit, Slot, best_fit, block_of, low_half, route_word, unpacks_what_it_packs};

@@ -1,10 +1,11 @@
 // What a slot word and a route word hold.
-ghost use Rattle.std.specs.Prelude.{◌≡◌, ◌^◌, ◌<◌, length, slice_index};
+ghost use Rattle.std.specs.Prelude.{◌≡◌, ◌%◌, ◌^◌, ◌<◌, length, slice_index};
 ghost use Rattle.words.specs.Slots.{InRange, UnpacksWhatItPacks, route_word, fit_or, best_fit, slot_word, child_of, fit_of, slot_of};
 
 use super::address::candidate;
 
 // The longest route of a node that fits a slot: its length beyond the bits above the node, 0 to 3, and what it tells.
+// Its range is a clause, `InRange`, and not a fact of the type: the definitions make fits of words of any numbers.
 #[derive(Clone, Copy)]
 pub struct Fit {
     pub extra: u8,
@@ -19,6 +20,7 @@ pub struct Slot {
 }
 
 // The block that a word names; of a slot word, its child.
+#[tactic(auto, unfolding(crate::specs::Slots::child_of))]
 pub fn block_of(x: u64) -> u32
     ensures value { result ≡ child_of x }
     ensures small { result < 2 ^ 20 }
@@ -26,7 +28,15 @@ pub fn block_of(x: u64) -> u32
     (x % 0x10_0000) as u32
 }
 
+// The low 32 bits of a word.
+pub fn low_half(x: u64) -> u32
+    ensures { result ≡ x % 2 ^ 32 }
+{
+    (x % 0x1_0000_0000) as u32
+}
+
 // The word of a route, which is never 0: that is no route.
+#[tactic(auto, unfolding(crate::specs::Slots::route_word))]
 pub fn route_word(tells: u32) -> u64
     ensures value { result ≡ route_word tells }
     ensures present { 0 < result }
@@ -35,6 +45,7 @@ pub fn route_word(tells: u32) -> u64
 }
 
 // The route of a slot word.
+#[tactic(auto, unfolding(crate::specs::Slots::fit_of))]
 fn fit_of(x: u64) -> Option<Fit>
     ensures value { result ≡ fit_of x }
     ensures inside { InRange result }
@@ -42,13 +53,14 @@ fn fit_of(x: u64) -> Option<Fit>
     if (x >> 54) % 2 == 1 {
         Some(Fit {
             extra: ((x >> 52) % 4) as u8,
-            tells: ((x >> 20) % 0x1_0000_0000) as u32,
+            tells: low_half(x >> 20),
         })
     } else {
         None
     }
 }
 
+// No `From` both ways: a slot is packed only where its child and its fit are in their ranges.
 impl Slot {
     // What a slot word holds.
     pub fn unpack(x: u64) -> Slot
@@ -63,6 +75,7 @@ impl Slot {
     }
 
     // The word of a slot.
+    #[tactic(auto, unfolding(crate::specs::Slots::slot_word))]
     pub fn pack(self) -> u64
         requires small { self.child < 2 ^ 20 }
         requires inside { InRange self.fit }
@@ -80,6 +93,7 @@ impl Slot {
 }
 
 // A route word of an extra length goes before what fitted till then, if it has a route.
+#[tactic(auto, unfolding(crate::specs::Slots::fit_or))]
 fn fit_or(extra: u8, word: u64, best: Option<Fit>) -> Option<Fit>
     requires short { extra < 4 }
     requires inside { InRange best }
@@ -91,7 +105,7 @@ fn fit_or(extra: u8, word: u64, best: Option<Fit>) -> Option<Fit>
     } else {
         Some(Fit {
             extra,
-            tells: (word % 0x1_0000_0000) as u32,
+            tells: low_half(word),
         })
     }
 }

@@ -32,7 +32,8 @@ use Rattle.routes.proofs.Build.Turns.{levels_after}
 use Rattle.routes.proofs.Counts.Segments.{seg_in}
 use Rattle.routes.proofs.Invariant.GoingOn.{GoesOn, on_build}
 use Rattle.routes.proofs.Invariant.OwnStays.{SameBut, equipped_stays}
-use Rattle.routes.proofs.Invariant.Staging.{need_few, staged_piece, staged_clean, staged_words}
+use Rattle.routes.proofs.Invariant.Staging.{staged_piece, staged_clean, staged_words}
+use Rattle.routes.proofs.Invariant.Needs.{need_few}
 
 -- An edited way has a node.
 edit_some : (c : RouteEdit) (d : ℕ) (ns : List ℕ) (t : Tree) → 0 < depth ns (edit c d ns t)
@@ -117,7 +118,7 @@ module _ (v : ℕ → ℕ → ℕ) (hall : Hall) (g : Ghost) (o : List ℕ) (rs 
         ∙ levels_piece (piece_in o k) have j.used (words_of o) short
         ∙ levels_same (piece_in o k) piece (staged_words v g o rs n j k W s) (staged_clean v g o rs n j k W s).small tells_small have (words_of o) change.fresh
         ∙ levels_after v (words_of o) g.tree W change piece.bits (piece.len / 4) have j.need j.used j.retired j.root (place_small piece.len piece.bits) (omega arith) fits
-        (need_few g o rs n j calm s.ps s.qs s.equipped) (λ e. refl) s.stage.work f
+        (need_few s.equipped.sure) (λ e. refl) s.stage.work f
 
     -- The working root is the first fresh block.
     root_is : fresh_in o j.used ≡ change.fresh 0
@@ -141,7 +142,7 @@ module _ (v : ℕ → ℕ → ℕ) (hall : Hall) (g : Ghost) (o : List ℕ) (rs 
     write_begins =
         subst (λ z. Write v (words_of after) g.tree W change way j.need j.used (j.retired + have) z 0 0) (sym root_is)
         (subst (λ z. Write v z g.tree W change way j.need j.used (j.retired + have) (change.fresh 0) 0 0) (sym words_are)
-        (stage_edit v (words_of o) g.tree W j.need j.used j.retired j.root have s.ts s.qs piece (drop (suc k) s.ps) (need_few g o rs n j calm s.ps s.qs s.equipped) (staged_piece v g o rs n j k W s) f))
+        (stage_edit v (words_of o) g.tree W j.need j.used j.retired j.root have s.ts s.qs piece (drop (suc k) s.ps) (need_few s.equipped.sure) (staged_piece v g o rs n j k W s) f))
 
     -- What comes next: the first word of the first new node.
     pub images_edited : (x : ℕ) → GoesOn v hall g after rs n (build_after j (Edit k have) o x)

@@ -24,7 +24,8 @@ use Rattle.routes.proofs.Build.Stages.{stage_stays}
 use Rattle.routes.proofs.Invariant.BuildReady.{staged_room}
 use Rattle.routes.proofs.Invariant.GoingOn.{GoesOn, on_build, on_if}
 use Rattle.routes.proofs.Invariant.OwnStays.{SameBut, equipped_stays}
-use Rattle.routes.proofs.Invariant.Staging.{need_few, staged_words, staged_deep}
+use Rattle.routes.proofs.Invariant.Staging.{staged_words, staged_deep}
+use Rattle.routes.proofs.Invariant.Needs.{need_few}
 
 -- The working tree is the same, with other own words.
 abbrev pub restaged : {v : ℕ → ℕ → ℕ} {g : Ghost} {o : List ℕ} {rs : List Route} {n : Now} {j : Job} {k : ℕ} {W : Tree} (s : Staged v g o rs n j k W) (o' : List ℕ) → SameBut (words_of o) (words_of o') j.retired → Staged v g o' rs n j k W
@@ -34,7 +35,7 @@ restaged {v} {g} {o} {rs} {n} {j} {k} {W} s o' same = record {
   ts = s.ts;
   here = s.here;
   equipped = equipped_stays g o o' rs n j calm s.ps s.qs j.retired same s.equipped;
-  stage = stage_stays v (words_of o) (words_of o') g.tree W j.need j.used j.retired j.root s.ts s.qs (drop k s.ps) (need_few g o rs n j calm s.ps s.qs s.equipped) (λ i l m. same i (inr (l, m))) s.stage;
+  stage = stage_stays v (words_of o) (words_of o') g.tree W j.need j.used j.retired j.root s.ts s.qs (drop k s.ps) (need_few s.equipped.sure) (λ i l m. same i (inr (l, m))) s.stage;
 }
 
 -- The own words after a word was read.

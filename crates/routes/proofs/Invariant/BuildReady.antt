@@ -27,7 +27,8 @@ use Rattle.routes.proofs.Build.Stages.{stage_clean}
 use Rattle.routes.proofs.Build.Writes.{write_there}
 use Rattle.routes.proofs.Keys.Nibs.{nibs-length}
 use Rattle.routes.proofs.Tree.Trees.{depth_few}
-use Rattle.routes.proofs.Invariant.Staging.{need_few, staged_piece, staged_clean_in, staged_deep}
+use Rattle.routes.proofs.Invariant.Staging.{staged_piece, staged_clean_in, staged_deep}
+use Rattle.routes.proofs.Invariant.Needs.{need_few}
 use Rattle.routes.proofs.Invariant.Touching.{MayAsk, used_touch, header_touch}
 
 -- Fresh blocks that are needed are those got.
@@ -43,7 +44,7 @@ module _ (v : ℕ → ℕ → ℕ) (g : Ghost) (o : List ℕ) (rs : List Route) 
   pub staged_room : (k : ℕ) (W : Tree) (s : Staged v g o rs n j k W) → (j.used + suc ((get_or s.ps k blank).len / 4) ≤ 72) × (j.retired + suc ((get_or s.ps k blank).len / 4) ≤ 72)
   unfolding wants
   staged_room k W s =
-      let f = need_few g o rs n j calm s.ps s.qs s.equipped in
+      let f = need_few s.equipped.sure in
       let p = staged_piece v g o rs n j k W s in
       let a = p.room in let b = p.slack in (omega arith, omega arith)
 
@@ -80,7 +81,7 @@ module _ (v : ℕ → ℕ → ℕ) (g : Ghost) (o : List ℕ) (rs : List Route) 
         s.here,
         s.equipped.sure.pending.few,
         omega (arith, writes_deep k first d i s, s.deep),
-        omega (arith, need_few g o rs n j calm s.ps s.qs s.equipped, s.write.held.spent, s.deep),
+        omega (arith, need_few s.equipped.sure, s.write.held.spent, s.deep),
         s.word,
       )
 

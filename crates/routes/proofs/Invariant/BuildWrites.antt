@@ -7,7 +7,6 @@ use Rattle.routes.specs.declared.update.job.Job.{Job}
 use Rattle.routes.specs.declared.update.build.Build.TheVariants.{Write as ToWrite}
 use Rattle.routes.specs.declared.update.publish.Publish.TheVariants.{FenceNodes}
 use Rattle.routes.specs.declared.update.Phase.TheVariants.{Publish as InPublish}
-use Rattle.routes.specs.declared.update.UpdateNext.TheVariants.{On}
 use Rattle.routes.specs.Memory.{set_val}
 use Rattle.routes.specs.Routes.{Route, Now}
 use Rattle.routes.specs.Machine.Builds.{after_write, starting}
@@ -17,13 +16,14 @@ use Rattle.routes.specs.Keys.Keys.{way_of}
 use Rattle.routes.specs.Tree.Edits.{edit_of}
 use Rattle.routes.specs.Tree.Trees.{Tree, depth}
 use Rattle.routes.specs.Invariant.Building.{Writes, BuildFacts, PublishFacts}
-use Rattle.routes.specs.Invariant.Ghosts.{Ghost, calm}
+use Rattle.routes.specs.Invariant.Ghosts.{Ghost}
 use Rattle.routes.specs.Invariant.Writers.{Hall, PhaseFacts}
 use Rattle.routes.proofs.Build.Stages.{stage_next, stage_end}
 use Rattle.routes.proofs.Build.Writes.{write_word, write_level}
 use Rattle.routes.proofs.Invariant.BuildStarts.{starts}
 use Rattle.routes.proofs.Invariant.GoingOn.{GoesOn, on_build, on_publish, on_if}
-use Rattle.routes.proofs.Invariant.Staging.{need_few}
+use Rattle.routes.proofs.Invariant.Needs.{need_few}
+use Rattle.std.specs.declared.ops.ControlFlow.TheVariants.{Continue}
 
 module _ (v : ℕ → ℕ → ℕ) (hall : Hall) (g : Ghost) (o : List ℕ) (rs : List Route) (n : Now) (j : Job) (k first d i : ℕ) (s : Writes v g o rs n j k first d i) where
   -- the way of the piece, and the tree that it makes
@@ -112,9 +112,9 @@ module _ (v : ℕ → ℕ → ℕ) (hall : Hall) (g : Ghost) (o : List ℕ) (rs 
             stage = subst (λ z. Stage v' (words_of o) g.tree new j.need j.used j.retired j.root r.0 s.qs (drop z s.ps)) q r.1;
           })
 
-      last_piece : ltb i 30 ≡ false → ltb (first + d + 1) j.used ≡ false → ltb (k + 1) j.size ≡ false → GoesOn v' hall g o rs n (On j (InPublish FenceNodes))
+      last_piece : ltb i 30 ≡ false → ltb (first + d + 1) j.used ≡ false → ltb (k + 1) j.size ≡ false → GoesOn v' hall g o rs n (Continue (j, InPublish FenceNodes))
       last_piece e z l =
-          let r = piece_done e z in let few = need_few g o rs n j calm s.ps s.qs s.equipped in
+          let r = piece_done e z in let few = need_few s.equipped.sure in
           let q : length s.ps ≤ suc k = omega (arith, ltb-false (k + 1) j.size l, s.equipped.sure.pending.length') in
           let f = subst (λ z. Stage v' (words_of o) g.tree new j.need j.used j.retired j.root r.0 s.qs z) (drop_of_length-le s.ps q) r.1 in
           on_publish v' hall g o rs n j FenceNodes (record {

@@ -56,6 +56,12 @@ unfolding last_from cnt
 last_in c [] = rw (eq-eqb c c refl) (omega arith)
 last_in c (d ∷ bs) = omega (arith, last_in d bs)
 
+-- So does that of a list with an end.
+pub last_of : (bs : List ℕ) → (last_from 0 bs ≡ 0 → ⊥) → 1 ≤ cnt (last_from 0 bs) bs
+unfolding last_from
+last_of [] n = absurd (n refl)
+last_of (b ∷ bs) n = last_in b bs
+
 -- The last of one joined to the first of the other makes one chain.
 chain_join : (v : ℕ → ℕ → ℕ) (x y c : ℕ) (bs ls : List ℕ) → ((b : ℕ) → cnt b (c ∷ bs) + cnt b ls ≤ 1) → Chain v x (c ∷ bs) → Chain v y ls →
     Chain (set_val (last_from c bs) 32 y v) x ((c ∷ bs) ++ ls)

@@ -10,7 +10,8 @@ use Rattle.routes.specs.declared.work.Work.TheVariants.{Update as Updating}
 use Rattle.routes.specs.Memory.{Mem}
 use Rattle.routes.specs.Routes.{Event, Turned, State, Run, young}
 use Rattle.routes.specs.Machine.Acts.{Did}
-use Rattle.routes.specs.Machine.Cpus.{work_of_update, told_of_update}
+use Rattle.routes.specs.Machine.Cpus.{work_of_update}
+use Rattle.std.specs.ControlFlow.{break_value}
 use Rattle.routes.specs.Machine.Updates.{update_act, update_after, update_words, UpdateReady}
 use Rattle.routes.specs.Invariant.Ghosts.{Ghost}
 use Rattle.routes.specs.Invariant.Inv.{Cpus, Inv, set_cpu}
@@ -49,7 +50,7 @@ module _ {m : Mem} {g : Ghost} {trail : ℕ → List ℕ} {s : State} {t : ℕ} 
 -- what a turn in a phase leads to, by the reply: nothing is told, and the invariant holds of the registers and own words that come next
 pub record Leads (t : ℕ) (c : Cpus) (p cpus' cpus blocks : ℕ) (es : List Event) (s : State) (j : Job) (ph : Phase) (x : ℕ) (n : Mem) : Type 0 where
   pub turn : Turn n (suc t) (set_cpu p (work_of_update (update_after cpus' j ph (c.own p) x)) (update_words j ph (c.own p) x) c) cpus blocks (Turned p ∷ es) p s
-  pub untold : told_of_update (update_after cpus' j ph (c.own p) x) ≡ None
+  pub untold : break_value (update_after cpus' j ph (c.own p) x) ≡ None
 
 module _ {m : Mem} {g : Ghost} {trail : ℕ → List ℕ} {s : State} {t : ℕ} {c : Cpus} {p cpus blocks : ℕ} {es : List Event}
     (i : Inv m (lock_of p true) g trail s t c) (r : Run cpus blocks es s) (y : T (young (s.now' p))) (j : Job) (x : ℕ) (n : Mem) where

@@ -16,8 +16,6 @@ use Rattle.routes.specs.declared.update.check.Check.{Check}
 use Rattle.routes.specs.declared.update.check.Check.TheVariants.{Piece as AtPiece, Root, Slot, Route as AtRoute, Reject}
 use Rattle.routes.specs.declared.update.obtain.Obtain.TheVariants.{Get}
 use Rattle.routes.specs.declared.update.Phase.TheVariants.{Check as InCheck, Obtain as InObtain}
-use Rattle.routes.specs.declared.update.UpdateNext.{UpdateNext}
-use Rattle.routes.specs.declared.update.UpdateNext.TheVariants.{On}
 use Rattle.routes.specs.Refusals.{number_of}
 use Rattle.routes.specs.Routes.{Route, Now, Table, Wrong, has, clean, without, piece, pieces, changed}
 use Rattle.routes.specs.Machine.Begins.{blank}
@@ -39,6 +37,8 @@ use Rattle.routes.proofs.Build.Checks.{check_has, check_none}
 use Rattle.routes.proofs.Repr.Nodes.{slot_down, repr_block}
 use Rattle.routes.proofs.Invariant.Kinds.{with_row}
 use Rattle.routes.proofs.Invariant.Passing.{take_all, stops, goes, wants_next, unclean, puts_pass, takes_by}
+use Rattle.routes.specs.Machine.Nexts.{UpdateNext}
+use Rattle.std.specs.declared.ops.ControlFlow.TheVariants.{Continue}
 
 -- the change is turned away, by number
 pub record Refused (g : Ghost) (rs : List Route) (n : Now) (why : ℕ) : Type 0 where
@@ -49,9 +49,9 @@ pub record Refused (g : Ghost) (rs : List Route) (n : Now) (why : ℕ) : Type 0 
 
 -- what a turn of Check comes to: a state of Check with its facts, blocks to be got, or Reject, and why
 pub data Goes (g : Ghost) (o : List ℕ) (rs : List Route) (n : Now) (j : Job) (r : UpdateNext) : Type 0 where
-  onward : (l : Job) (s : Check) → r ≡ On l (InCheck s) → CheckFacts g o rs n l s → Goes g o rs n j r
-  obtains : (l : Job) → r ≡ On l (InObtain Get) → Gathers (with_row heads g) o rs n l → Goes g o rs n j r
-  rejects : (why : Refusal) → r ≡ On j (InCheck (Reject why)) → Refused g rs n (number_of why) → Goes g o rs n j r
+  onward : (l : Job) (s : Check) → r ≡ Continue (l, InCheck s) → CheckFacts g o rs n l s → Goes g o rs n j r
+  obtains : (l : Job) → r ≡ Continue (l, InObtain Get) → Gathers (with_row heads g) o rs n l → Goes g o rs n j r
+  rejects : (why : Refusal) → r ≡ Continue (j, InCheck (Reject why)) → Refused g rs n (number_of why) → Goes g o rs n j r
 
 module _ (g : Ghost) (o : List ℕ) (rs : List Route) (n : Now) (j : Job) (k : ℕ) (c : Checked g o rs n j k) where
   -- the piece in hand
@@ -59,7 +59,7 @@ module _ (g : Ghost) (o : List ℕ) (rs : List Route) (n : Now) (j : Job) (k : �
   hand = get_or c.ps k blank
 
   -- A wrong piece is told.
-  refuses : (why : Refusal) → piece hand c.passes.0 ≡ Wrong (number_of why) → Goes g o rs n j (On j (InCheck (Reject why)))
+  refuses : (why : Refusal) → piece hand c.passes.0 ≡ Wrong (number_of why) → Goes g o rs n j (Continue (j, InCheck (Reject why)))
   refuses why e = rejects why refl (record {
     resting = c.resting;
     ps = c.ps;

@@ -1,6 +1,5 @@
 -- Check: its registers are in their ranges, and what its turn asks may be asked.
-use Rattle.std.proofs.Common.{◌≡◌, ℕ, zero, suc, ◌*◌, ◌<◌, ◌≤◌, Bool, List, length, take, sym, ◌∙◌, subst, arith}
-use Rattle.words.specs.Address.{nib}
+use Rattle.std.proofs.Common.{◌≡◌, ℕ, ◌*◌, ◌<◌, ◌≤◌, Bool, List, length, take, sym, ◌∙◌, subst, arith}
 use Rattle.words.proofs.Addresses.{nib_small, place_small}
 use Rattle.routes.specs.declared.update.job.Job.{Job}
 use Rattle.routes.specs.declared.update.check.Check.{Check}
@@ -15,9 +14,10 @@ use Rattle.routes.specs.Tree.Walks.{down}
 use Rattle.routes.specs.Invariant.Ghosts.{Ghost}
 use Rattle.routes.specs.Invariant.Memories.{Core}
 use Rattle.routes.specs.Invariant.Checking.{Checked, OnWay, CheckFacts}
-use Rattle.routes.proofs.Tree.Trees.{count_kid, count_block}
+use Rattle.routes.proofs.Tree.Trees.{count_block}
+use Rattle.routes.proofs.Build.Reads.{count_down}
 use Rattle.routes.proofs.Build.Stages.{wants_few}
-use Rattle.routes.proofs.Invariant.Apart.{uses, used_held, used_inside, header_held, header_inside}
+use Rattle.routes.proofs.Invariant.Touching.{MayAsk, used_touch, header_touch}
 use Rattle.routes.proofs.Invariant.Passing.{take-length}
 
 -- Each piece before the one in hand asked for at most nine blocks.
@@ -37,26 +37,12 @@ check_ok g o rs n j (Slot k d b) f = (at_piece f.0, f.1.clean', f.3)
 check_ok g o rs n j (AtRoute k b) f = (at_piece f.0, f.1.clean')
 check_ok g o rs n j (Reject why) f = tt
 
--- A node on a way is one of the tree.
-pub count_down : (b a e : ℕ) (t : Tree) → count b (down a e t) ≤ count b t
-unfolding down
-count_down b a zero t = omega arith
-count_down b a (suc e) t = omega (arith, count_kid b (down a e t) (nib e a) (nib_small e a), count_down b a e t)
-
-module _ {m : Mem} {h : ℕ} {locked : Bool} {g : Ghost} {rs : List Route} {t : ℕ} (core : Core m h locked g rs t) (p : ℕ) (left : 0 < m.left) (turn : p ≡ m.who) (small : p < m.cpus) where
-  -- The header may be touched.
-  pub header_touch : (w : ℕ) → w < 48 → MayTouch m p 0 w
-  header_touch w l = (left, turn, small, header_inside core, rw (header_held core) tt, l)
-
-  -- So may what is in the tree.
-  pub tree_touch : (b w : ℕ) → 1 ≤ count b g.tree → w < 48 → MayTouch m p b w
-  tree_touch b w i l =
-      let u : 1 ≤ uses g b = omega arith in
-      (left, turn, small, used_inside core b u, rw (used_held core b u) tt, l)
-
-  -- So may a node on the way.
+module _ {m : Mem} {h : ℕ} {locked : Bool} {g : Ghost} {rs : List Route} {t : ℕ} (core : Core m h locked g rs t) (p : ℕ) (a : MayAsk m p) where
+  -- A node on the way may be touched.
   way_touch : (o : List ℕ) (k d b w : ℕ) → OnWay g o k d b → w < 48 → MayTouch m p b w
-  way_touch o k d b w x l = tree_touch b w (subst (λ z. 1 ≤ count z g.tree) (sym x.here) (omega (arith, count_down (block_of node) (piece_in o k).bits d g.tree, count_block node (λ z. x.real (x.here ∙ z))))) l
+  way_touch o k d b w x l =
+      let there : 1 ≤ count b g.tree = subst (λ z. 1 ≤ count z g.tree) (sym x.here) (omega (arith, count_down (block_of node) g.tree (piece_in o k).bits d, count_block node (λ z. x.real (x.here ∙ z)))) in
+      used_touch core a b w (omega (arith, there)) l
     where
       node : Tree
       node = down (piece_in o k).bits d g.tree
@@ -65,10 +51,10 @@ module _ {m : Mem} {h : ℕ} {locked : Bool} {g : Ghost} {rs : List Route} {t : 
   pub check_may : (o : List ℕ) (n : Now) (j : Job) (s : Check) → CheckFacts g o rs n j s → MayDo m p (check_act p s o)
   unfolding CheckFacts
   check_may o n j (AtPiece k) f = tt
-  check_may o n j (Root k) f = header_touch 1 (omega arith)
+  check_may o n j (Root k) f = header_touch core a 1 (omega arith)
   check_may o n j (Slot k d b) f = way_touch o k d b _ f.2 (omega (arith, nib_small d (piece_in o k).bits))
   check_may o n j (AtRoute k b) f = way_touch o k _ b _ f.2 (omega (arith, place_small (piece_in o k).len (piece_in o k).bits))
-  check_may o n j (Reject why) f = header_touch 0 (omega arith)
+  check_may o n j (Reject why) f = header_touch core a 0 (omega arith)
 
   -- So its turn may be taken.
   pub check_ready : (o : List ℕ) (n : Now) (j : Job) (s : Check) → length o ≡ 4096 → CheckFacts g o rs n j s → CheckReady m p j s o

@@ -11,7 +11,6 @@ use Rattle.routes.specs.declared.update.check.Check.{Check}
 use Rattle.routes.specs.declared.update.check.Check.TheVariants.{Piece as AtPiece, Root, Slot, Route as AtRoute, Reject}
 use Rattle.routes.specs.declared.update.obtain.Obtain.TheVariants.{Get}
 use Rattle.routes.specs.declared.update.Phase.TheVariants.{Check as InCheck, Obtain as InObtain}
-use Rattle.routes.specs.declared.update.UpdateNext.{UpdateNext}
 use Rattle.routes.specs.declared.work.Work.TheVariants.{Update as Updating}
 use Rattle.routes.specs.Memory.{Mem, counted, Arrives, rest}
 use Rattle.routes.specs.Refusals.{number_of}
@@ -19,7 +18,8 @@ use Rattle.routes.specs.Routes.{Route, Event, Turned, Now, Under, Over, State, R
 use Rattle.routes.specs.Run.Steps.{settled_at}
 use Rattle.routes.specs.Machine.Acts.{Did}
 use Rattle.routes.specs.Machine.Checks.{check_act, check_after}
-use Rattle.routes.specs.Machine.Cpus.{work_of_update, told_of_update}
+use Rattle.routes.specs.Machine.Cpus.{work_of_update}
+use Rattle.std.specs.ControlFlow.{break_value}
 use Rattle.routes.specs.Invariant.Ghosts.{Ghost, heads}
 use Rattle.routes.specs.Invariant.Memories.{Core}
 use Rattle.routes.specs.Invariant.Registers.{holds_in, passed_in}
@@ -40,6 +40,7 @@ use Rattle.routes.proofs.Invariant.Kinds.{with_row, core_row, heads_none, still_
 use Rattle.routes.proofs.Invariant.Arriving.{turn_arrives}
 use Rattle.routes.proofs.Invariant.Unlocks.{reject_parts, unlock_turn}
 use Rattle.routes.proofs.Invariant.CheckNext.{Goes, onward, obtains, rejects, Refused, Loads, check_next}
+use Rattle.routes.specs.Machine.Nexts.{UpdateNext}
 
 -- memory that was asked, or was not
 abbrev asked : Bool → Mem → Mem
@@ -117,14 +118,14 @@ module _ {m : Mem} {g : Ghost} {trail : ℕ → List ℕ} {s : State} {t : ℕ} 
 
   -- What a turn of Check comes to is one of these.
   goes_turn : (b : Bool) (j : Job) (u : UpdateNext) → m.late p ≡ [] → Goes g (c.own p) s.table (s.now' p) j u →
-      Turn (asked b m) t (set_cpu p (work_of_update u) (c.own p) c) cpus blocks (seen_of p (told_of_update u) es) p s
+      Turn (asked b m) t (set_cpu p (work_of_update u) (c.own p) c) cpus blocks (seen_of p (break_value u) es) p s
   goes_turn b j u none (onward l k e f) = rw e (onward_turn b l k f)
   goes_turn b j u none (obtains l e f) = rw e (obtains_turn b l none f)
   goes_turn b j u none (rejects why e f) = rw e (rejects_turn b j why f)
 
   -- A state that loads, or only looks at its own words, and what arrives behind it.
   looks_turn : (b : Bool) (j : Job) (k : Check) (x : ℕ) {n : Mem} → CheckFacts g (c.own p) s.table (s.now' p) j k → m.late p ≡ [] → Loads m.val (c.own p) k x → Arrives (asked b m) n →
-      Turn n t (set_cpu p (work_of_update (check_after j k (c.own p) x)) (c.own p) c) cpus blocks (seen_of p (told_of_update (check_after j k (c.own p) x)) es) p s
+      Turn n t (set_cpu p (work_of_update (check_after j k (c.own p) x)) (c.own p) c) cpus blocks (seen_of p (break_value (check_after j k (c.own p) x)) es) p s
   looks_turn b j k x f none l a = turn_arrives a (goes_turn b j (check_after j k (c.own p) x) none
       (check_next m.val g (c.own p) s.table (s.now' p) j k x i.core.root i.core.repr i.core.good f l))
 
@@ -140,7 +141,7 @@ check_rests g o rs n j (Reject why) f = f.0
 -- A turn of Check.
 pub check_turn : {m : Mem} {g : Ghost} {trail : ℕ → List ℕ} {s : State} {t : ℕ} {c : Cpus} {p cpus blocks : ℕ} {es : List Event} (j : Job) (k : Check) (x : ℕ) {n : Mem} →
     Inv m (lock_of p true) g trail s t c → Run cpus blocks es s → T (young (s.now' p)) → c.work p ≡ Updating j (InCheck k) → Did p (check_act p k (c.own p)) m x n →
-    Turn n t (set_cpu p (work_of_update (check_after j k (c.own p) x)) (c.own p) c) cpus blocks (seen_of p (told_of_update (check_after j k (c.own p) x)) es) p s
+    Turn n t (set_cpu p (work_of_update (check_after j k (c.own p) x)) (c.own p) c) cpus blocks (seen_of p (break_value (check_after j k (c.own p) x)) es) p s
 unfolding PhaseFacts Loads
 check_turn {m} {g} {trail} {s} {t} {c} {p} {cpus} {blocks} {es} j k x {n} i r y e d = go k e d (holder_facts i j (InCheck k) e)
   where
@@ -148,7 +149,7 @@ check_turn {m} {g} {trail} {s} {t} {c} {p} {cpus} {blocks} {es} j k x {n} i r y 
     none k f = still_none m p g _ (check_rests g (c.own p) s.table (s.now' p) j k f).has.row i.core.row
 
     go : (k : Check) → c.work p ≡ Updating j (InCheck k) → Did p (check_act p k (c.own p)) m x n → CheckFacts g (c.own p) s.table (s.now' p) j k →
-        Turn n t (set_cpu p (work_of_update (check_after j k (c.own p) x)) (c.own p) c) cpus blocks (seen_of p (told_of_update (check_after j k (c.own p) x)) es) p s
+        Turn n t (set_cpu p (work_of_update (check_after j k (c.own p) x)) (c.own p) c) cpus blocks (seen_of p (break_value (check_after j k (c.own p) x)) es) p s
     go (AtPiece k) e d f = looks_turn i r y false j (AtPiece k) x f (none (AtPiece k) f) tt (subst (Arrives m) (sym d.1) (rest m))
     go (Root k) e d f = looks_turn i r y true j (Root k) x f (none (Root k) f) (d.0 ∙ sees_none p 0 1 m (none (Root k) f)) d.1
     go (Slot k l b) e d f = looks_turn i r y true j (Slot k l b) x f (none (Slot k l b) f) (d.0 ∙ sees_none p b _ m (none (Slot k l b) f)) d.1

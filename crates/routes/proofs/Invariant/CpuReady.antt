@@ -52,5 +52,5 @@ module _ {m : Mem} {k : Lock} {g : Ghost} {trail : ℕ → List ℕ} {s : State}
     where
       go : (w : Work) → c.work p ≡ w → ReadyFor m p (c.own p) w
       go Idle e = record { ok = tt; room = i.room p small; may = tt }
-      go (Looking l) e = record { ok = lookup_ok p i l e soon; room = i.room p small; may = lookup_may p i l e (left, mine, small) }
+      go (Looking l) e = record { ok = lookup_ok p i l e soon; room = i.room p small; may = lookup_may p i l e (record { once = left; turn = mine; inside = small }) }
       go (Updating j ph) e = update_turn j ph e

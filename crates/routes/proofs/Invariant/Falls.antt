@@ -26,12 +26,8 @@ use Rattle.routes.specs.declared.update.finish.Finish.{Finish as FinishState}
 use Rattle.routes.specs.declared.update.finish.Finish.TheVariants.{Unused, Unlock}
 use Rattle.routes.specs.declared.update.Phase.{Phase}
 use Rattle.routes.specs.declared.update.Phase.TheVariants.{Refuse, Lock, Check, Obtain, Recycle, Scan, Build, Publish, Retire, Reclaim, Finish}
-use Rattle.routes.specs.declared.update.UpdateNext.{UpdateNext}
-use Rattle.routes.specs.declared.update.UpdateNext.TheVariants.{On, Told}
 use Rattle.routes.specs.declared.work.Work.{Work}
 use Rattle.routes.specs.declared.work.Work.TheVariants.{Idle, Lookup as Looking, Update as Updating}
-use Rattle.routes.specs.declared.lookup.LookupNext.{LookupNext}
-use Rattle.routes.specs.declared.lookup.LookupNext.TheVariants.{On as LookOn, Told as LookTold}
 use Rattle.routes.specs.Routes.{clean}
 use Rattle.routes.specs.Machine.Laws.{turns_after}
 use Rattle.routes.specs.Machine.Checks.{CheckOk, AtPiece, check_after, piece_in, earlier_in, passed, taking, decided, entered}
@@ -50,11 +46,13 @@ use Rattle.routes.specs.Machine.Cpus.{WorkOk, work_after, work_of_lookup, work_o
 use Rattle.routes.specs.Invariant.Ages.{from_publish, from_build, from_get, pot_check, pot_obtain, pot_recycle, pot_scan, pot_build, pot_publish, pot_retire, pot_reclaim, pot_finish, pot_update, pot, stays_scan, stays_update, stays}
 use Rattle.routes.proofs.Machine.Turns.{lookups_end_lem}
 use Rattle.routes.proofs.Table.Sound.{clean-parts}
+use Rattle.routes.specs.Machine.Nexts.{LookupNext, UpdateNext}
+use Rattle.std.specs.declared.ops.ControlFlow.TheVariants.{Continue, Break}
 
 -- what is left when a turn of an update is over
 unfoldable pub pot_next : ℕ → (ℕ → ℕ → Bool) → UpdateNext → ℕ
-pot_next cpus unawaited (On j s) = pot_update cpus unawaited j s
-pot_next cpus unawaited (Told a) = 0
+pot_next cpus unawaited (Continue n) = pot_update cpus unawaited n.0 n.1
+pot_next cpus unawaited (Break a) = 0
 
 -- A block more to get costs as many turns as a scan of all processors, and a few.
 get_suc : (c n : ℕ) → from_get c (suc n) ≡ from_get c n + (2 * c + 6)
@@ -283,14 +281,14 @@ module _ (c : ℕ) (v : ℕ → ℕ → Bool) where
   -- What is left is that of the registers then.
   update_next : (r : UpdateNext) → pot c v (work_of_update r) ≡ pot_next c v r
   unfolding pot pot_next
-  update_next (On j s) = refl
-  update_next (Told a) = refl
+  update_next (Continue n) = refl
+  update_next (Break a) = refl
 
   -- The same of a lookup.
   lookup_next : (r : LookupNext) → pot c v (work_of_lookup r) ≡ turns_after r
   unfolding pot
-  lookup_next (LookOn l) = refl
-  lookup_next (LookTold a) = refl
+  lookup_next (Continue l) = refl
+  lookup_next (Break a) = refl
 
   -- Each turn that does not stay where it is brings what is under way nearer to its end.
   pub pot_falls : (u : ℕ → ℕ → Bool) (w : Work) (o : List ℕ) (x : ℕ) → 1 ≤ c → WorkOk w o → stays w x ≡ false → suc (pot c v (work_after c w o x)) ≤ pot c u w

@@ -24,7 +24,8 @@ use Rattle.routes.specs.Invariant.Gathering.{ObtainFacts, RecycleFacts}
 use Rattle.routes.specs.Invariant.Retiring.{ReclaimFacts, FinishFacts}
 use Rattle.routes.specs.Invariant.Writers.{PhaseFacts, ScanFacts}
 use Rattle.routes.specs.Invariant.Inv.{Inv, Cpus}
-use Rattle.routes.proofs.Invariant.Apart.{uses, solid, used_held, used_inside, header_held, header_inside}
+use Rattle.routes.proofs.Invariant.Apart.{uses, solid, used_held, used_inside}
+use Rattle.routes.proofs.Invariant.Touching.{MayAsk, used_touch, header_touch}
 use Rattle.routes.proofs.Invariant.HeadRows.{heads_row, heads_none_to}
 use Rattle.routes.proofs.Invariant.Holding.{holder_small, holder_room, holder_facts}
 use Rattle.routes.proofs.Invariant.Needs.{need_few}
@@ -34,17 +35,13 @@ use Rattle.routes.proofs.Invariant.Reclaims.{unused_used, unused_block}
 use Rattle.routes.proofs.Invariant.Steps.{lock_of}
 
 module _ {m : Mem} {g : Ghost} {trail : ℕ → List ℕ} {s : State} {t : ℕ} {c : Cpus} {p : ℕ} (i : Inv m (lock_of p true) g trail s t c) (left : 0 < m.left) (mine : p ≡ m.who) where
-  -- A block in use may be touched.
-  pub touch_used : (b w : ℕ) → 1 ≤ uses g b → w < 48 → MayTouch m p b w
-  touch_used b w n l = (left, mine, holder_small i, used_inside i.core b n, rw (used_held i.core b n) tt, l)
-
-  -- So may the header.
-  pub touch_header : (w : ℕ) → w < 48 → MayTouch m p 0 w
-  touch_header w l = (left, mine, holder_small i, header_inside i.core, rw (header_held i.core) tt, l)
+  -- It may ask.
+  asks : MayAsk m p
+  asks = record { once = left; turn = mine; inside = holder_small i }
 
   -- The oldest retired node may be touched.
   touch_oldest : (b w : ℕ) → Oldest g b → w < 48 → MayTouch m p b w
-  touch_oldest b w e l = touch_used b w (let z = oldest_in i b e in omega arith) l
+  touch_oldest b w e l = used_touch i.core asks b w (let z = oldest_in i b e in omega arith) l
 
   -- A block in use may be given back where late stores go to LIMBO_HEAD and LIMBO_TAIL only.
   pub release_used : (b : ℕ) → g.row ≡ heads → 1 ≤ uses g b → MayRelease m p b
@@ -71,19 +68,19 @@ module _ {m : Mem} {g : Ghost} {trail : ℕ → List ℕ} {s : State} {t : ℕ} 
           room = holder_room i;
           may = rw (undo_block i j e) (release_used _ f.0.has.row (undo_used i j e));
         }
-    obtain_ready Full e = record { ok = tt; room = holder_room i; may = touch_header 0 (omega arith) }
+    obtain_ready Full e = record { ok = tt; room = holder_room i; may = header_touch i.core asks 0 (omega arith) }
 
     -- Recycle.
     pub recycle_ready : (st : Recycle) → c.work p ≡ Updating j (InRecycle st) → UpdateReady m p j (InRecycle st) o
     unfolding PhaseFacts RecycleFacts
-    recycle_ready OldHead e = record { ok = tt; room = holder_room i; may = touch_header 3 (omega arith) }
+    recycle_ready OldHead e = record { ok = tt; room = holder_room i; may = header_touch i.core asks 3 (omega arith) }
     recycle_ready (OldAt b) e = let f = holder_facts i j (InRecycle (OldAt b)) e in
         record { ok = tt; room = holder_room i; may = touch_oldest b 31 f.1 (omega arith) }
     recycle_ready (OldNext b grace) e = let f = holder_facts i j (InRecycle (OldNext b grace)) e in
         record { ok = tt; room = holder_room i; may = touch_oldest b 32 f.1 (omega arith) }
     recycle_ready (OldSetHead b next grace) e = let f = holder_facts i j (InRecycle (OldSetHead b next grace)) e in
-        record { ok = (f.0.wants', need_few f.0.gathered.sure); room = holder_room i; may = touch_header 3 (omega arith) }
-    recycle_ready OldSetTail e = record { ok = tt; room = holder_room i; may = touch_header 4 (omega arith) }
+        record { ok = (f.0.wants', need_few f.0.gathered.sure); room = holder_room i; may = header_touch i.core asks 3 (omega arith) }
+    recycle_ready OldSetTail e = record { ok = tt; room = holder_room i; may = header_touch i.core asks 4 (omega arith) }
 
     -- Scan: an epoch is at most the number of turns.
     pub scan_ready : t < 2 ^ 64 → (st : Scan) → c.work p ≡ Updating j (InScan st) → UpdateReady m p j (InScan st) o
@@ -92,21 +89,21 @@ module _ {m : Mem} {g : Ghost} {trail : ℕ → List ℕ} {s : State} {t : ℕ} 
         record {
           ok = (omega (arith, f.here, i.core.sizes.cpus), omega (arith, f.stamped, (i.core.sight.stamped b (oldest_in i b f.oldest)).1, i.core.sight.early));
           room = holder_room i;
-          may = touch_header (16 + q) (omega (arith, f.here, i.core.sizes.cpus));
+          may = header_touch i.core asks (16 + q) (omega (arith, f.here, i.core.sizes.cpus));
         }
     scan_ready soon (ForLimit q limit) e = let f = holder_facts i j (InScan (ForLimit q limit)) e in
-        record { ok = omega (arith, f.1, i.core.sizes.cpus); room = holder_room i; may = touch_header (16 + q) (omega (arith, f.1, i.core.sizes.cpus)) }
+        record { ok = omega (arith, f.1, i.core.sizes.cpus); room = holder_room i; may = header_touch i.core asks (16 + q) (omega (arith, f.1, i.core.sizes.cpus)) }
 
     -- Reclaim.
     pub reclaim_ready : (st : Reclaim) → c.work p ≡ Updating j (InReclaim st) → UpdateReady m p j (InReclaim st) o
     unfolding PhaseFacts ReclaimFacts cnt
-    reclaim_ready (Head grace n) e = record { ok = tt; room = holder_room i; may = touch_header 3 (omega arith) }
+    reclaim_ready (Head grace n) e = record { ok = tt; room = holder_room i; may = header_touch i.core asks 3 (omega arith) }
     reclaim_ready (RetiredAt grace n b) e = let f = holder_facts i j (InReclaim (RetiredAt grace n b)) e in
         record { ok = tt; room = holder_room i; may = touch_oldest b 31 f.1 (omega arith) }
     reclaim_ready (Next grace n b) e = let f = holder_facts i j (InReclaim (Next grace n b)) e in
         record { ok = tt; room = holder_room i; may = touch_oldest b 32 f.1 (omega arith) }
-    reclaim_ready (SetHead grace n b next) e = record { ok = tt; room = holder_room i; may = touch_header 3 (omega arith) }
-    reclaim_ready (SetTail grace n b) e = record { ok = tt; room = holder_room i; may = touch_header 4 (omega arith) }
+    reclaim_ready (SetHead grace n b next) e = record { ok = tt; room = holder_room i; may = header_touch i.core asks 3 (omega arith) }
+    reclaim_ready (SetTail grace n b) e = record { ok = tt; room = holder_room i; may = header_touch i.core asks 4 (omega arith) }
     reclaim_ready (Release grace n b) e = let f = holder_facts i j (InReclaim (Release grace n b)) e in
         record {
           ok = tt;
@@ -124,4 +121,4 @@ module _ {m : Mem} {g : Ghost} {trail : ℕ → List ℕ} {s : State} {t : ℕ} 
           room = holder_room i;
           may = rw (unused_block i j e) (release_used _ f.0.retires.has.row (unused_used i j e));
         }
-    finish_ready Unlock e = record { ok = tt; room = holder_room i; may = touch_header 0 (omega arith) }
+    finish_ready Unlock e = record { ok = tt; room = holder_room i; may = header_touch i.core asks 0 (omega arith) }

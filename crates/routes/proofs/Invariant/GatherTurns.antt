@@ -15,13 +15,12 @@ use Rattle.routes.specs.declared.update.scan.Scan.{Scan}
 use Rattle.routes.specs.declared.update.scan.Scan.TheVariants.{ForNode, ForLimit}
 use Rattle.routes.specs.declared.update.Phase.{Phase}
 use Rattle.routes.specs.declared.update.Phase.TheVariants.{Obtain as InObtain, Recycle as InRecycle, Scan as InScan, Reclaim as InReclaim, Finish as InFinish}
-use Rattle.routes.specs.declared.update.UpdateNext.{UpdateNext}
-use Rattle.routes.specs.declared.update.UpdateNext.TheVariants.{On, Told}
 use Rattle.routes.specs.declared.work.Work.TheVariants.{Update as Updating}
 use Rattle.routes.specs.Memory.{Mem, Arrives, sees, counted}
 use Rattle.routes.specs.Routes.{State, Under, Over, Event, Turned, Run, young, limit}
 use Rattle.routes.specs.Machine.Acts.{Did}
-use Rattle.routes.specs.Machine.Cpus.{work_of_update, told_of_update}
+use Rattle.routes.specs.Machine.Cpus.{work_of_update}
+use Rattle.std.specs.ControlFlow.{break_value}
 use Rattle.routes.specs.Machine.Updates.{update_act, update_after, update_words}
 use Rattle.routes.specs.Run.Steps.{settled_at}
 use Rattle.routes.specs.Invariant.Ghosts.{Ghost}
@@ -41,17 +40,19 @@ use Rattle.routes.proofs.Invariant.Recycles.{reuse_few, head_facts, head_step, h
 use Rattle.routes.proofs.Invariant.Reclaims.{head_step as reclaim-head, retired_at_step as reclaim-at, next_step as reclaim-next, set_head_step as reclaim-set-head, set_tail_step as reclaim-set-tail, release_step, unused_step}
 use Rattle.routes.proofs.Invariant.Scans.{for_node_step, for_limit_step}
 use Rattle.routes.proofs.Invariant.Steps.{lock_of, Turn}
+use Rattle.routes.specs.Machine.Nexts.{UpdateNext}
+use Rattle.std.specs.declared.ops.ControlFlow.TheVariants.{Continue, Break}
 
 -- a turn of p that goes on with its update, with these own words, and tells nothing; n is the memory after it and after what has arrived since
 pub record TurnOn (t : ℕ) (c : Cpus) (p : ℕ) (s : State) (own : List ℕ) (next : UpdateNext) (cpus blocks : ℕ) (es : List Event) (n : Mem) : Type 0 where
   pub turn : Turn n t (set_cpu p (work_of_update next) own c) cpus blocks (Turned p ∷ es) p s
-  pub untold : told_of_update next ≡ None
+  pub untold : break_value next ≡ None
 
 -- An update that still holds the lock has told nothing.
-pub none_told : (u : UpdateNext) → holds (work_of_update u) ≡ true → told_of_update u ≡ None
+pub none_told : (u : UpdateNext) → holds (work_of_update u) ≡ true → break_value u ≡ None
 unfolding holds
-none_told (On j ph) e = refl
-none_told (Told a) e = absurd (false≢true e)
+none_told (Continue u) e = refl
+none_told (Break a) e = absurd (false≢true e)
 
 module _ {m : Mem} {g : Ghost} {trail : ℕ → List ℕ} {s : State} {t : ℕ} {c : Cpus} {p : ℕ} (i : Inv m (lock_of p true) g trail s t c)
     {cpus blocks : ℕ} {es : List Event} (r : Run cpus blocks es s) (y : T (young (s.now' p))) (j : Job) where

@@ -24,7 +24,7 @@ module _ {m : Mem} {g : Ghost} {trail : ℕ → List ℕ} {s : State} {t : ℕ} 
   unfolding holds_in PhaseFacts
   holder_ready Refuse h e = absurd (false≢true h)
   holder_ready AtLock h e = absurd (false≢true h)
-  holder_ready (Check k) h e = check_ready i.core p left mine (holder_small i) (c.own p) (s.now' p) j k (holder_room i) (holder_facts i j (Check k) e)
+  holder_ready (Check k) h e = check_ready i.core p (record { once = left; turn = mine; inside = holder_small i }) (c.own p) (s.now' p) j k (holder_room i) (holder_facts i j (Check k) e)
   holder_ready (Obtain k) h e = obtain_ready i left mine j k e
   holder_ready (Recycle k) h e = recycle_ready i left mine j k e
   holder_ready (Scan k) h e = scan_ready i left mine j (omega arith) k e

@@ -5,12 +5,12 @@ use Rattle.routes.specs.declared.update.finish.Finish.TheVariants.{Unused, Unloc
 use Rattle.routes.specs.declared.update.obtain.Obtain.TheVariants.{Get, Undo, Full}
 use Rattle.routes.specs.declared.update.Phase.{Phase}
 use Rattle.routes.specs.declared.update.Phase.TheVariants.{Refuse, Lock as AtLock, Check, Obtain, Recycle, Scan, Build, Publish, Retire, Reclaim, Finish}
-use Rattle.routes.specs.declared.update.UpdateNext.{UpdateNext}
 use Rattle.routes.specs.declared.work.Work.TheVariants.{Update as Updating}
 use Rattle.routes.specs.Memory.{Mem}
 use Rattle.routes.specs.Routes.{Event, State, Run, young}
 use Rattle.routes.specs.Machine.Acts.{Did}
-use Rattle.routes.specs.Machine.Cpus.{work_of_update, told_of_update}
+use Rattle.routes.specs.Machine.Cpus.{work_of_update}
+use Rattle.std.specs.ControlFlow.{break_value}
 use Rattle.routes.specs.Machine.Updates.{update_act, update_after, update_words}
 use Rattle.routes.specs.Invariant.Ghosts.{Ghost}
 use Rattle.routes.specs.Invariant.Inv.{Cpus, Inv, set_cpu}
@@ -23,12 +23,13 @@ use Rattle.routes.proofs.Invariant.Fencing.{turn_later}
 use Rattle.routes.proofs.Invariant.GatherTurns.{TurnOn, get_turn, undo_turn, recycle_turn, scan_turn, reclaim_turn, unused_turn}
 use Rattle.routes.proofs.Invariant.LockTurns.{full_told_turn, done_told_turn}
 use Rattle.routes.proofs.Invariant.Steps.{Turn, lock_of}
+use Rattle.routes.specs.Machine.Nexts.{UpdateNext}
 
 module _ {m : Mem} {g : Ghost} {trail : ℕ → List ℕ} {s : State} {t : ℕ} {c : Cpus} {p : ℕ} {es : List Event}
     (i : Inv m (lock_of p true) g trail s t c) (r : Run m.cpus m.blocks es s) (y : T (young (s.now' p))) (j : Job) (x : ℕ) (n : Mem) where
   -- the turn that leads to this, with these own words
   abbrev Leads : List ℕ → UpdateNext → Type 0
-  Leads own next = Turn n (suc t) (set_cpu p (work_of_update next) own c) m.cpus m.blocks (seen_of p (told_of_update next) es) p s
+  Leads own next = Turn n (suc t) (set_cpu p (work_of_update next) own c) m.cpus m.blocks (seen_of p (break_value next) es) p s
 
   -- A turn that goes on tells nothing.
   goes_on : (own : List ℕ) (next : UpdateNext) → TurnOn t c p s own next m.cpus m.blocks es n → Leads own next

@@ -15,7 +15,8 @@ use Rattle.routes.specs.Memory.{Mem, sees, swapped, counted}
 use Rattle.routes.specs.Routes.{Event, Told, Turned, Over, State, Run, young, limit, find}
 use Rattle.routes.specs.Counts.Counts.{cnt}
 use Rattle.routes.specs.Machine.Acts.{Did}
-use Rattle.routes.specs.Machine.Cpus.{work_of_lookup, told_of_lookup}
+use Rattle.routes.specs.Machine.Cpus.{work_of_lookup}
+use Rattle.std.specs.ControlFlow.{break_value}
 use Rattle.routes.specs.Machine.Lookups.{after_root, after_slot, lookup_act, lookup_after}
 use Rattle.routes.specs.Late.Steps.{set_word}
 use Rattle.routes.specs.Repr.Repr.{Follow}
@@ -59,11 +60,11 @@ unfolding cnt
 trail_none b trail e u = omega (arith, u, ap (cnt b) e)
 
 -- Nothing is told after ROOT is loaded.
-root_told : (a e b : ℕ) → told_of_lookup (after_root a e b) ≡ None
+root_told : (a e b : ℕ) → break_value (after_root a e b) ≡ None
 root_told a e b = elim (cases_Bool (eqb b 0)) [ inl z ↦ rw z refl | inr z ↦ rw z refl ]
 
 -- Nothing is told after a slot is loaded.
-slot_told : (a e d child : ℕ) (best : Answer) → told_of_lookup (after_slot a e d child best) ≡ None
+slot_told : (a e d child : ℕ) (best : Answer) → break_value (after_slot a e d child best) ≡ None
 slot_told a e d child best = elim (cases_Bool (eqb child 0 || eqb d 8)) [ inl z ↦ rw z refl | inr z ↦ rw z refl ]
 
 module _ {m : Mem} {k : Lock} {g : Ghost} {trail : ℕ → List ℕ} {s : State} {t : ℕ} {c : Cpus} {cpus blocks : ℕ} {es : List Event} (p : ℕ) (i : Inv m k g trail s t c) (r : Run cpus blocks es s) where
@@ -252,7 +253,7 @@ module _ {m : Mem} {k : Lock} {g : Ghost} {trail : ℕ → List ℕ} {s : State}
 
   -- Any turn of a lookup, with what arrives after it.
   pub lookup_turn : (l : Lookup) (x : ℕ) (n : Mem) → c.work p ≡ Looking l → T (young (s.now' p)) → Did p (lookup_act p l) m x n →
-      Turn n t (set_cpu p (work_of_lookup (lookup_after l x)) (c.own p) c) cpus blocks (seen_of p (told_of_lookup (lookup_after l x)) es) p s
+      Turn n t (set_cpu p (work_of_lookup (lookup_after l x)) (c.own p) c) cpus blocks (seen_of p (break_value (lookup_after l x)) es) p s
   lookup_turn (Epoch a) x n e y d = turn_arrives d.1 (rw d.0 (look_epoch a e y))
   lookup_turn (Announce a z) x n e y d = turn_arrives d.1 (look_announce a z e y)
   lookup_turn (Root a z) x n e y d = rw (root_told a z (child_of x)) (turn_arrives d.1 (rw d.0 (look_root a z e y)))

@@ -11,7 +11,7 @@ use Rattle.routes.specs.Invariant.Building.{Equipped}
 use Rattle.routes.specs.Invariant.Ghosts.{Ghost, Row}
 use Rattle.routes.specs.Invariant.Readers.{Pending}
 use Rattle.routes.proofs.Counts.Segments.{seg_same}
-use Rattle.routes.proofs.Invariant.Staging.{need_few}
+use Rattle.routes.proofs.Invariant.Needs.{need_few}
 
 -- the pieces, the fresh blocks and so many replaced ones are the same
 abbrev pub SameBut : Own → Own → ℕ → Type 0
@@ -38,7 +38,7 @@ pending_stays o o' size ps s p = record {
 pub equipped_stays : (g : Ghost) (o o' : List ℕ) (rs : List Route) (n : Now) (j : Job) (row : Row) (ps : List Piece) (qs : List Route) (retired : ℕ) →
     SameBut (words_of o) (words_of o') retired → Equipped g o rs n j row ps qs → Equipped g o' rs n j row ps qs
 equipped_stays g o o' rs n j row ps qs retired s e =
-    let few = need_few g o rs n j row ps qs e in
+    let few = need_few e.sure in
     let same : fresh_blocks (words_of o') j.got ≡ fresh_blocks (words_of o) j.got = seg_same (words_of o') (words_of o) (fresh_at 0) (fresh_at 0) j.got (λ i l. s (fresh_at 0 + i) (inr (omega arith, omega (arith, e.all)))) in
     record {
       whole = e.whole;

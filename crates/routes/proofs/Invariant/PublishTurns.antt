@@ -6,7 +6,6 @@ use Rattle.routes.specs.declared.update.publish.Publish.TheVariants.{FenceNodes,
 use Rattle.routes.specs.declared.update.retire.Retire.TheVariants.{Epoch}
 use Rattle.routes.specs.declared.update.Phase.TheVariants.{Publish as InPublish, Retire as InRetire}
 use Rattle.routes.specs.declared.work.Work.TheVariants.{Update as Updating}
-use Rattle.routes.specs.declared.update.UpdateNext.TheVariants.{On}
 use Rattle.routes.specs.Memory.{Mem, counted, fenced, stored, set_val}
 use Rattle.routes.specs.Routes.{Route, Now, Event, Turned, State, Run, young}
 use Rattle.routes.specs.Machine.Acts.{Did}
@@ -27,11 +26,12 @@ use Rattle.routes.proofs.Invariant.Fencing.{fence_turn, turn_later}
 use Rattle.routes.proofs.Invariant.Holding.{holder_facts, holder_room, load_turn}
 use Rattle.routes.proofs.Invariant.Rowing.{rowed_turn}
 use Rattle.routes.proofs.Invariant.Sights.{rowed}
-use Rattle.routes.proofs.Invariant.Staging.{need_few}
+use Rattle.routes.proofs.Invariant.Needs.{need_few}
 use Rattle.routes.proofs.Invariant.Steps.{lock_of, Turn}
 use Rattle.routes.proofs.Invariant.StoreKinds.{root_store}
 use Rattle.routes.proofs.Invariant.Storing.{store_turn}
 use Rattle.routes.proofs.Invariant.Taking.{Takes}
+use Rattle.std.specs.declared.ops.ControlFlow.TheVariants.{Continue}
 
 module _ (v : ℕ → ℕ → ℕ) (hall : Hall) (g : Ghost) (o : List ℕ) (rs : List Route) (n : Now) (j : Job) where
   -- All nodes are there: the tree may be published.
@@ -54,7 +54,7 @@ module _ (v : ℕ → ℕ → ℕ) (hall : Hall) (g : Ghost) (o : List ℕ) (rs 
       let e = f.equipped in (
         e.whole,
         omega (arith, f.spent, e.all),
-        omega (arith, need_few g o rs n j still f.ps f.qs e, e.all),
+        omega (arith, need_few e.sure, e.all),
         f.few,
         inl (record { ps = f.ps; qs = f.qs; W = f.W; row = refl; fresh = e.has.fresh; awaits = e.awaits; sure = e.sure }),
       )
@@ -99,7 +99,7 @@ module _ {m : Mem} {g : Ghost} {trail : ℕ → List ℕ} {s : State} {t : ℕ} 
 module _ {m : Mem} {g : Ghost} {trail : ℕ → List ℕ} {s : State} {t : ℕ} {c : Cpus} {p cpus blocks : ℕ} {es : List Event}
     (i : Inv m (lock_of p true) g trail s t c) (r : Run cpus blocks es s) (y : T (young (s.now' p))) (j : Job) where
   -- The turn, whatever the state.
-  pub publish_turn : (st : Publish) → c.work p ≡ Updating j (InPublish st) → (x : ℕ) (n : Mem) → Did p (publish_act j st) m x n → Takes (suc t) c p s (c.own p) (On j (publish_after st x)) cpus blocks es n
+  pub publish_turn : (st : Publish) → c.work p ≡ Updating j (InPublish st) → (x : ℕ) (n : Mem) → Did p (publish_act j st) m x n → Takes (suc t) c p s (c.own p) (Continue (j, publish_after st x)) cpus blocks es n
   publish_turn FenceNodes e x n d = record {
     memory = counted (fenced p m);
     arrives = d.1;

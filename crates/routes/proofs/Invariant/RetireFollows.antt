@@ -18,7 +18,7 @@ use Rattle.routes.specs.Invariant.Writers.{Hall, PhaseFacts, ScanFacts}
 use Rattle.routes.proofs.Basics.Places.{set_val_hit, set_val_miss}
 use Rattle.routes.proofs.Counts.Segments.{seg_apart, seg-find}
 use Rattle.routes.proofs.Invariant.GoingOn.{facts_if}
-use Rattle.routes.proofs.Invariant.Joining.{chain_seg, last-++, last_seg, ends_empty}
+use Rattle.routes.proofs.Invariant.Chains.{chain_seg, last-++, last_seg, ends_empty}
 use Rattle.routes.proofs.Invariant.RetireReady.{replaced_loose}
 use Rattle.routes.proofs.Invariant.Sights.{rowed, joined, mended, header_stays}
 

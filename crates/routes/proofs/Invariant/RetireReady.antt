@@ -16,7 +16,7 @@ use Rattle.routes.specs.Invariant.Holders.{replaced_blocks}
 use Rattle.routes.specs.Invariant.Memories.{Core}
 use Rattle.routes.specs.Invariant.Retiring.{RetireFacts, replaced_at}
 use Rattle.routes.proofs.Counts.Segments.{seg_in}
-use Rattle.routes.proofs.Invariant.Joining.{last_of}
+use Rattle.routes.proofs.Invariant.Chains.{last_of}
 use Rattle.routes.proofs.Invariant.Apart.{used_small}
 use Rattle.routes.proofs.Invariant.Touching.{MayAsk, used_touch, header_touch}
 

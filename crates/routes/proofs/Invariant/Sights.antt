@@ -7,7 +7,7 @@ use Rattle.routes.specs.Invariant.Ghosts.{Ghost, Row}
 use Rattle.routes.specs.Invariant.Memories.{Chain, last_from, Sight}
 use Rattle.routes.proofs.Basics.Places.{set_val_miss}
 use Rattle.routes.proofs.Counts.Lists.{cnt-++}
-use Rattle.routes.proofs.Invariant.Joining.{chain_keeps, chain_set, join_chain}
+use Rattle.routes.proofs.Invariant.Chains.{chain_stays, chain_set, join_chain}
 
 -- with another kind of late row
 abbrev pub rowed : Row → Ghost → Ghost
@@ -51,7 +51,7 @@ module _ (v : ℕ → ℕ → ℕ) (g : Ghost) (e t : ℕ) (s : Sight v g e t) w
       early = s.early;
       ending = s.ending;
       newest = s.newest;
-      linked = chain_keeps v (set_val 0 1 x v) (v 0 3) g.chain (λ b l. block_stays 1 x v b 32 (solid b l)) s.linked;
+      linked = chain_stays v (set_val 0 1 x v) (v 0 3) g.chain (λ b l. block_stays 1 x v b 32 (solid b l)) s.linked;
       stamped = λ b l. (block_stays 1 x v b 31 (solid b l) ∙ (s.stamped b l).0, (s.stamped b l).1);
     }
 
@@ -61,7 +61,7 @@ module _ (v : ℕ → ℕ → ℕ) (g : Ghost) (e t : ℕ) (s : Sight v g e t) w
       ahead = omega (arith, s.ahead);
       early = few;
       ending = s.ending;
-      linked = chain_keeps v (set_val 0 2 x v) (v 0 3) g.chain (λ b l. block_stays 2 x v b 32 (solid b l)) s.linked;
+      linked = chain_stays v (set_val 0 2 x v) (v 0 3) g.chain (λ b l. block_stays 2 x v b 32 (solid b l)) s.linked;
       stamped = λ b l. (block_stays 2 x v b 31 (solid b l) ∙ (s.stamped b l).0, omega (arith, (s.stamped b l).1));
       newest = λ b l. omega (arith, s.newest b l);
     }
@@ -73,7 +73,7 @@ module _ (v : ℕ → ℕ → ℕ) (g : Ghost) (e t : ℕ) (s : Sight v g e t) w
       early = s.early;
       ending = λ f. last;
       newest = s.newest;
-      linked = chain_keeps v (set_val 0 4 x v) (v 0 3) g.chain (λ b l. block_stays 4 x v b 32 (solid b l)) s.linked;
+      linked = chain_stays v (set_val 0 4 x v) (v 0 3) g.chain (λ b l. block_stays 4 x v b 32 (solid b l)) s.linked;
       stamped = λ b l. (block_stays 4 x v b 31 (solid b l) ∙ (s.stamped b l).0, (s.stamped b l).1);
     }
 
@@ -94,7 +94,7 @@ module _ (v : ℕ → ℕ → ℕ) (g : Ghost) (e t : ℕ) (s : Sight v g e t) w
         early = s.early;
         ending = λ f. cc;
         newest = λ b l. absurd (omega arith);
-        linked = subst (λ z. Chain (set_val 0 3 x v) x (z ++ g.loose)) (sym none) (chain_keeps v (set_val 0 3 x v) x g.loose (λ b l. block_stays 3 x v b 32 (real b l)) links);
+        linked = subst (λ z. Chain (set_val 0 3 x v) x (z ++ g.loose)) (sym none) (chain_stays v (set_val 0 3 x v) x g.loose (λ b l. block_stays 3 x v b 32 (real b l)) links);
         stamped = λ b l. (let f = both b l in (block_stays 3 x v b 31 f.0 ∙ f.1, f.2));
       }
 

@@ -1,5 +1,5 @@
 -- What an update in hand comes to in numbers, and the piece that is next.
-use Rattle.std.proofs.Common.{◌≡◌, ℕ, suc, ◌/◌, ◌<◌, ◌≤◌, List, ◌∷◌, length, get_or, drop, ap, ◌∙◌, subst, arith, drop-cons}
+use Rattle.std.proofs.Common.{◌≡◌, ℕ, suc, ◌/◌, ◌<◌, List, ◌∷◌, length, get_or, drop, ap, ◌∙◌, subst, arith, drop-cons}
 use Rattle.own.specs.Layout.{words_of}
 use Rattle.routes.specs.declared.Piece.{Piece}
 use Rattle.routes.specs.declared.update.job.Job.{Job}
@@ -11,15 +11,10 @@ use Rattle.routes.specs.Table.Tables.{Clean}
 use Rattle.routes.specs.Tree.Trees.{Tree}
 use Rattle.routes.specs.Invariant.Ghosts.{Ghost, Row}
 use Rattle.routes.specs.Invariant.Building.{Equipped, Staged}
-use Rattle.routes.proofs.Table.Pieces.{changed_table}
 use Rattle.routes.proofs.Table.Sound.{clean_from}
-use Rattle.routes.proofs.Build.Stages.{wants_few, stage_clean}
+use Rattle.routes.proofs.Build.Stages.{stage_clean}
 
 module _ (g : Ghost) (o : List ℕ) (rs : List Route) (n : Now) (j : Job) (row : Row) (ps : List Piece) (qs : List Route) (e : Equipped g o rs n j row ps qs) where
-  -- At most 72 blocks are needed.
-  pub need_few : j.need ≤ 72
-  need_few = omega (arith, wants_few ps rs qs (changed_table ps rs qs e.sure.makes), e.sure.need, e.sure.pending.length', e.sure.pending.few)
-
   -- A number below the size is a piece's.
   pub in_pieces : (k : ℕ) → k < j.size → k < length ps
   in_pieces k l = omega (arith, e.sure.pending.length')

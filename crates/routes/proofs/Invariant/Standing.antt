@@ -8,8 +8,6 @@ use Rattle.routes.specs.declared.lookup.Lookup.TheVariants.{Epoch, Announce, Roo
 use Rattle.routes.specs.declared.update.job.Job.{Job}
 use Rattle.routes.specs.declared.update.scan.Scan.TheVariants.{ForNode, ForLimit}
 use Rattle.routes.specs.declared.update.Phase.TheVariants.{Refuse, Lock, Check, Obtain, Recycle, Scan, Build, Publish, Retire, Reclaim, Finish}
-use Rattle.routes.specs.declared.update.UpdateNext.{UpdateNext}
-use Rattle.routes.specs.declared.update.UpdateNext.TheVariants.{On, Told}
 use Rattle.routes.specs.declared.work.Work.{Work}
 use Rattle.routes.specs.declared.work.Work.TheVariants.{Idle, Lookup as Looking, Update as Updating}
 use Rattle.routes.specs.Memory.{set_at}
@@ -24,6 +22,8 @@ use Rattle.routes.specs.Invariant.Registers.{loaded, loaded_in, announced, annou
 use Rattle.routes.proofs.Basics.Places.{set_at_miss}
 use Rattle.routes.proofs.Run.Waits.{in_asking, in_gone}
 use Rattle.routes.proofs.Invariant.Falls.{pot_falls}
+use Rattle.routes.specs.Machine.Nexts.{UpdateNext}
+use Rattle.std.specs.declared.ops.ControlFlow.TheVariants.{Continue, Break}
 
 -- how a turn may leave the registers as they are: nothing is under way, the lock was not free, or a scan stands
 pub data Stay (w : Work) (x : ℕ) : Type 0 where
@@ -102,8 +102,8 @@ way_loads stamp w t = grind (arith, tests)
 -- An update has loaded none.
 update_loads : (r : UpdateNext) → loaded (work_of_update r) ≡ 0
 unfolding loaded
-update_loads (On j s) = refl
-update_loads (Told a) = refl
+update_loads (Continue n) = refl
+update_loads (Break a) = refl
 
 -- A turn of a lookup past its load leaves what it has loaded, or ends it.
 lookup_loads : (l : Lookup) (x : ℕ) → 1 ≤ loaded_in l → (loaded (work_of_lookup (lookup_after l x)) ≡ 0) ⊎ (loaded (work_of_lookup (lookup_after l x)) ≡ loaded_in l)

@@ -2,12 +2,11 @@
 use Rattle.std.proofs.Common.{◌≡◌, ℕ, suc, true, T, List, ◌∷◌, length, None, sym, ap, subst, arith}
 use Rattle.routes.specs.declared.update.job.Job.{Job}
 use Rattle.routes.specs.declared.update.Phase.{Phase}
-use Rattle.routes.specs.declared.update.UpdateNext.{UpdateNext}
-use Rattle.routes.specs.declared.update.UpdateNext.TheVariants.{On}
 use Rattle.routes.specs.declared.work.Work.TheVariants.{Update as Updating}
 use Rattle.routes.specs.Memory.{Mem, Arrives, set_val, stored, counted}
 use Rattle.routes.specs.Routes.{Event, Turned, State, Run, young}
-use Rattle.routes.specs.Machine.Cpus.{work_of_update, told_of_update}
+use Rattle.routes.specs.Machine.Cpus.{work_of_update}
+use Rattle.std.specs.ControlFlow.{break_value}
 use Rattle.routes.specs.Late.View.{view}
 use Rattle.routes.specs.Invariant.Ghosts.{Ghost}
 use Rattle.routes.specs.Invariant.Inv.{Cpus, Inv, set_cpu}
@@ -19,6 +18,8 @@ use Rattle.routes.proofs.Invariant.GoingOn.{GoesOn}
 use Rattle.routes.proofs.Invariant.Holding.{load_turn, pause_turn}
 use Rattle.routes.proofs.Invariant.Steps.{lock_of, Turn}
 use Rattle.routes.proofs.Invariant.Storing.{StoreOk, store_turn}
+use Rattle.routes.specs.Machine.Nexts.{UpdateNext}
+use Rattle.std.specs.declared.ops.ControlFlow.TheVariants.{Continue}
 
 -- right after the ask memory is this, from which what is late may have arrived till n
 pub record Takes (t : ℕ) (c : Cpus) (p : ℕ) (s : State) (own : List ℕ) (next : UpdateNext) (cpus blocks : ℕ) (es : List Event) (n : Mem) : Type 0 where
@@ -26,7 +27,7 @@ pub record Takes (t : ℕ) (c : Cpus) (p : ℕ) (s : State) (own : List ℕ) (ne
   pub arrives : Arrives memory n
   pub job : Job
   pub phase : Phase
-  pub is : next ≡ On job phase
+  pub is : next ≡ Continue (job, phase)
   pub turn : Turn memory t (set_cpu p (Updating job phase) own c) cpus blocks (Turned p ∷ es) p s
 
 module _ {m : Mem} {g : Ghost} {trail : ℕ → List ℕ} {s : State} {t : ℕ} {c : Cpus} {p cpus blocks : ℕ} {es : List Event}
@@ -75,5 +76,5 @@ takes_turn {t} {c} {p} {s} {own} {cpus = cpus} {blocks = blocks} {es = es} {n = 
     subst (λ z. Turn n t (set_cpu p (work_of_update z) own c) cpus blocks (Turned p ∷ es) p s) (sym k.is) (turn_arrives k.arrives k.turn)
 
 -- And nothing is told.
-pub takes_untold : {t : ℕ} {c : Cpus} {p : ℕ} {s : State} {own : List ℕ} {next : UpdateNext} {cpus blocks : ℕ} {es : List Event} {n : Mem} → Takes t c p s own next cpus blocks es n → told_of_update next ≡ None
-takes_untold k = ap told_of_update k.is
+pub takes_untold : {t : ℕ} {c : Cpus} {p : ℕ} {s : State} {own : List ℕ} {next : UpdateNext} {cpus blocks : ℕ} {es : List Event} {n : Mem} → Takes t c p s own next cpus blocks es n → break_value next ≡ None
+takes_untold k = ap break_value k.is

@@ -12,11 +12,11 @@ pub record MayAsk (m : Mem) (p : ℕ) : Type 0 where
   pub turn : p ≡ m.who
   pub inside : p < m.cpus
 
-module _ {m : Mem} {h : ℕ} {locked : Bool} {g : Ghost} {rs : List Route} {t : ℕ} (c : Core m h locked g rs t) (a : MayAsk m h) where
+module _ {m : Mem} {h p : ℕ} {locked : Bool} {g : Ghost} {rs : List Route} {t : ℕ} (c : Core m h locked g rs t) (a : MayAsk m p) where
   -- A word of a block of the tree, of limbo or of a fresh one.
-  pub used_touch : (b w : ℕ) → 1 ≤ uses g b → w < 48 → MayTouch m h b w
+  pub used_touch : (b w : ℕ) → 1 ≤ uses g b → w < 48 → MayTouch m p b w
   used_touch b w u l = (a.once, a.turn, a.inside, used_inside c b u, rw (used_held c b u) tt, l)
 
   -- A word of the header.
-  pub header_touch : (w : ℕ) → w < 48 → MayTouch m h 0 w
+  pub header_touch : (w : ℕ) → w < 48 → MayTouch m p 0 w
   header_touch w l = (a.once, a.turn, a.inside, header_inside c, rw (header_held c) tt, l)

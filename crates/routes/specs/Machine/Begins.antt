@@ -1,6 +1,6 @@
 -- How a lookup or an update begins: the registers and the own words then.
 -- Assumes nothing.
-use Rattle.std.specs.Prelude.{ℕ, zero, suc, ◌^◌, ◌<◌, false, cond, ◌||◌, List, ◌==◌, nat_lt, slice_index_or}
+use Rattle.std.specs.Prelude.{◌≡◌, ℕ, zero, suc, ◌^◌, ◌<◌, false, cond, ◌||◌, List, ◌==◌, nat_lt, slice_index_or}
 use Rattle.own.specs.Pieces.{piece_written}
 use Rattle.own.specs.declared.piece.PieceWords.{PieceWords}
 use Rattle.routes.specs.declared.Ask.{Ask}
@@ -29,6 +29,10 @@ pub record PieceFits (a : Piece) : Type 0 where
   pub len : a.len < 2 ^ 8
   pub bits : a.bits < 2 ^ 32
   pub tells : a.tells < 2 ^ 32
+
+pub record StoredAs (a : Piece) (w : PieceWords) : Type 0 where
+  pub value : w ≡ stored a
+  pub fits : PieceFits a
 
 abbrev pub PiecesFit : List Piece → ℕ → Type 0
 PiecesFit ps n = (k : ℕ) → k < n → PieceFits (slice_index_or ps k blank)

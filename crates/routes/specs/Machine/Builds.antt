@@ -13,13 +13,13 @@ use Rattle.routes.specs.declared.update.build.Build.{Build}
 use Rattle.routes.specs.declared.update.build.Build.TheVariants.{Root, Read, Edit, Write}
 use Rattle.routes.specs.declared.update.publish.Publish.TheVariants.{FenceNodes}
 use Rattle.routes.specs.declared.update.Phase.TheVariants.{Build as InBuild, Publish as InPublish}
-use Rattle.routes.specs.declared.update.UpdateNext.{UpdateNext}
-use Rattle.routes.specs.declared.update.UpdateNext.TheVariants.{On}
 use Rattle.routes.specs.Memory.{Mem}
 use Rattle.routes.specs.Machine.Acts.{PhaseReady, MovedOwn}
 use Rattle.routes.specs.Machine.Checks.{CleanIn, piece_in}
 use Rattle.routes.specs.Machine.Jobs.{rooted, rebuilt}
 use Rattle.routes.specs.Machine.Obtains.{fresh_in}
+use Rattle.routes.specs.Machine.Nexts.{UpdateNext}
+use Rattle.std.specs.declared.ops.ControlFlow.TheVariants.{Continue}
 
 -- the level at which the route of piece k ends
 abbrev pub deep_in : List ℕ → ℕ → ℕ
@@ -27,24 +27,24 @@ deep_in o k = (piece_in o k).len / 4
 
 -- piece k is next
 abbrev pub starting : Job → ℕ → UpdateNext
-starting j k = cond (j.root == 0) (On j (InBuild (Edit k 0))) (On j (InBuild (Read k 0 0 j.root)))
+starting j k = cond (j.root == 0) (Continue (j, InBuild (Edit k 0))) (Continue (j, InBuild (Read k 0 0 j.root)))
 
 -- after a word of a node: the next word, the next node on the way, or the edit
 abbrev pub after_read : Job → ℕ → ℕ → ℕ → ℕ → ℕ → ℕ → UpdateNext
 after_read j k d i b deep child =
-    cond (nat_lt i 30) (On j (InBuild (Read k d (i + 1) b)))
-    (cond (d == deep || child == 0) (On j (InBuild (Edit k (d + 1)))) (On j (InBuild (Read k (d + 1) 0 child))))
+    cond (nat_lt i 30) (Continue (j, InBuild (Read k d (i + 1) b)))
+    (cond (d == deep || child == 0) (Continue (j, InBuild (Edit k (d + 1)))) (Continue (j, InBuild (Read k (d + 1) 0 child))))
 
 -- the images are edited
 abbrev pub after_edit : Job → ℕ → ℕ → ℕ → ℕ → UpdateNext
-after_edit j k have levels root = On (rebuilt (j.used + levels) (j.retired + have) root j) (InBuild (Write k j.used 0 0))
+after_edit j k have levels root = Continue (rebuilt (j.used + levels) (j.retired + have) root j, InBuild (Write k j.used 0 0))
 
 -- after a word of an image: the next word, the next level, the next piece, or all is built
 abbrev pub after_write : Job → ℕ → ℕ → ℕ → ℕ → UpdateNext
 after_write j k first d i =
-    cond (nat_lt i 30) (On j (InBuild (Write k first d (i + 1))))
-    (cond (nat_lt (first + d + 1) j.used) (On j (InBuild (Write k first (d + 1) 0)))
-    (cond (nat_lt (k + 1) j.size) (starting j (k + 1)) (On j (InPublish FenceNodes))))
+    cond (nat_lt i 30) (Continue (j, InBuild (Write k first d (i + 1))))
+    (cond (nat_lt (first + d + 1) j.used) (Continue (j, InBuild (Write k first (d + 1) 0)))
+    (cond (nat_lt (k + 1) j.size) (starting j (k + 1)) (Continue (j, InPublish FenceNodes))))
 
 -- a word of a node was loaded: it goes into the image, and the node's block behind the replaced ones
 abbrev pub read_words : Job → ℕ → ℕ → ℕ → List ℕ → ℕ → List ℕ

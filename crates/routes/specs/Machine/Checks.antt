@@ -18,13 +18,13 @@ use Rattle.routes.specs.declared.update.check.Check.{Check}
 use Rattle.routes.specs.declared.update.check.Check.TheVariants.{Piece, Root, Slot, Route, Reject}
 use Rattle.routes.specs.declared.update.obtain.Obtain.TheVariants.{Get}
 use Rattle.routes.specs.declared.update.Phase.TheVariants.{Check as InCheck, Obtain as InObtain}
-use Rattle.routes.specs.declared.update.UpdateNext.{UpdateNext}
-use Rattle.routes.specs.declared.update.UpdateNext.TheVariants.{On, Told}
 use Rattle.routes.specs.Memory.{Mem}
 use Rattle.routes.specs.Refusals.{number_of}
 use Rattle.routes.specs.Routes.{clean}
 use Rattle.routes.specs.Machine.Acts.{PhaseReady, Moved}
 use Rattle.routes.specs.Machine.Jobs.{needing}
+use Rattle.routes.specs.Machine.Nexts.{UpdateNext}
+use Rattle.std.specs.declared.ops.ControlFlow.TheVariants.{Continue, Break}
 
 -- piece k
 abbrev pub piece_in : List ℕ → ℕ → PieceWords
@@ -36,13 +36,13 @@ earlier_in o k = earlier_of (words_of o) (piece_in o k) k
 
 -- piece k has passed: on to the next, or to the blocks that all of them need
 abbrev pub passed : Job → ℕ → ℕ → UpdateNext
-passed j k len = cond (nat_lt (k + 1) j.size) (On (needing (j.need + len / 4 + 1) j) (InCheck (Piece (k + 1)))) (On (needing (j.need + len / 4 + 1) j) (InObtain Get))
+passed j k len = cond (nat_lt (k + 1) j.size) (Continue (needing (j.need + len / 4 + 1) j, InCheck (Piece (k + 1)))) (Continue (needing (j.need + len / 4 + 1) j, InObtain Get))
 
 -- a piece that takes out: the last earlier piece with its prefix decides, or else the tree
 abbrev pub taking : Job → ℕ → ℕ → Earlier → Result UpdateNext Refusal
 taking j k len Put = Ok (passed j k len)
 taking j k len Taken = Err AbsentRoute
-taking j k len Never = Ok (On j (InCheck (Root k)))
+taking j k len Never = Ok (Continue (j, InCheck (Root k)))
 
 -- what piece k comes to before anything is loaded
 abbrev pub looked_at : Job → ℕ → List ℕ → Result UpdateNext Refusal
@@ -53,7 +53,7 @@ abbrev pub descent : ℕ → ℕ → ℕ → ℕ → Check
 descent k len d b = cond (d == len / 4) (Route k b) (Slot k d b)
 
 abbrev pub entered : Job → ℕ → ℕ → ℕ → ℕ → Result UpdateNext Refusal
-entered j k len d b = cond (b == 0) (Err AbsentRoute) (Ok (On j (InCheck (descent k len d b))))
+entered j k len d b = cond (b == 0) (Err AbsentRoute) (Ok (Continue (j, InCheck (descent k len d b))))
 
 abbrev pub found_route : Job → ℕ → ℕ → ℕ → Result UpdateNext Refusal
 found_route j k len w = cond (w == 0) (Err AbsentRoute) (Ok (passed j k len))
@@ -61,7 +61,7 @@ found_route j k len w = cond (w == 0) (Err AbsentRoute) (Ok (passed j k len))
 -- a refusal leads to Reject
 abbrev pub decided : Job → Result UpdateNext Refusal → UpdateNext
 decided j (Ok r) = r
-decided j (Err why) = On j (InCheck (Reject why))
+decided j (Err why) = Continue (j, InCheck (Reject why))
 
 -- piece k is in hand, and each before it has asked for at most nine blocks
 abbrev pub AtPiece : Job → ℕ → Type 0
@@ -89,7 +89,7 @@ check_after j (Piece k) o x = decided j (looked_at j k o)
 check_after j (Root k) o x = decided j (entered j k (piece_in o k).len 0 (child_of x))
 check_after j (Slot k d b) o x = decided j (entered j k (piece_in o k).len (d + 1) (child_of x))
 check_after j (Route k b) o x = decided j (found_route j k (piece_in o k).len x)
-check_after j (Reject why) o x = Told (No (number_of why))
+check_after j (Reject why) o x = Break (No (number_of why))
 
 abbrev pub CheckReady : Mem → ℕ → Job → Check → List ℕ → Type 0
 CheckReady m p j s o = PhaseReady m p (check_act p s o) (CheckOk j s o) o

@@ -1,16 +1,12 @@
 -- What a processor does, as one pure function: what its next turn asks, and by the reply what it has then and what it tells.
 -- Assumes nothing.
-use Rattle.std.specs.Prelude.{◌≡◌, ℕ, List, length, Some, None, Option}
+use Rattle.std.specs.Prelude.{◌≡◌, ℕ, List, length, None, Option}
 use Rattle.routes.specs.declared.Answer.{Answer}
 use Rattle.routes.specs.declared.Ask.{Ask}
 use Rattle.routes.specs.declared.Cpu.{Cpu}
 use Rattle.routes.specs.declared.Piece.{Piece}
 use Rattle.routes.specs.declared.act.Act.{Act}
 use Rattle.routes.specs.declared.act.Act.TheVariants.{Pause}
-use Rattle.routes.specs.declared.lookup.LookupNext.{LookupNext}
-use Rattle.routes.specs.declared.lookup.LookupNext.TheVariants.{On as LookOn, Told as LookTold}
-use Rattle.routes.specs.declared.update.UpdateNext.{UpdateNext}
-use Rattle.routes.specs.declared.update.UpdateNext.TheVariants.{On, Told}
 use Rattle.routes.specs.declared.work.Work.{Work}
 use Rattle.routes.specs.declared.work.Work.TheVariants.{Idle, Lookup, Update}
 use Rattle.routes.specs.Memory.{Mem}
@@ -18,6 +14,9 @@ use Rattle.routes.specs.Machine.Acts.{MayDo, Did}
 use Rattle.routes.specs.Machine.Begins.{begin_work, begin_words, AskFits}
 use Rattle.routes.specs.Machine.Lookups.{LookupOk, lookup_act, lookup_after}
 use Rattle.routes.specs.Machine.Updates.{UpdateOk, update_act, update_after, update_words}
+use Rattle.routes.specs.Machine.Nexts.{LookupNext, UpdateNext}
+use Rattle.std.specs.declared.ops.ControlFlow.TheVariants.{Continue, Break}
+use Rattle.std.specs.ControlFlow.{break_value}
 
 -- ranges of registers
 abbrev pub WorkOk : Work → List ℕ → Type 0
@@ -32,20 +31,12 @@ act p (Lookup l) o = lookup_act p l
 act p (Update j s) o = update_act p j s o
 
 abbrev pub work_of_lookup : LookupNext → Work
-work_of_lookup (LookOn l) = Lookup l
-work_of_lookup (LookTold a) = Idle
-
-abbrev pub told_of_lookup : LookupNext → Option Answer
-told_of_lookup (LookOn l) = None
-told_of_lookup (LookTold a) = Some a
+work_of_lookup (Continue l) = Lookup l
+work_of_lookup (Break a) = Idle
 
 abbrev pub work_of_update : UpdateNext → Work
-work_of_update (On j s) = Update j s
-work_of_update (Told a) = Idle
-
-abbrev pub told_of_update : UpdateNext → Option Answer
-told_of_update (On j s) = None
-told_of_update (Told a) = Some a
+work_of_update (Continue n) = Update n.0 n.1
+work_of_update (Break a) = Idle
 
 -- by the number of processors and the reply: what is under way then, the own words, and what is told
 abbrev pub work_after : ℕ → Work → List ℕ → ℕ → Work
@@ -60,8 +51,8 @@ words_after (Update j s) o x = update_words j s o x
 
 abbrev pub told_after : ℕ → Work → List ℕ → ℕ → Option Answer
 told_after cpus Idle o x = None
-told_after cpus (Lookup l) o x = told_of_lookup (lookup_after l x)
-told_after cpus (Update j s) o x = told_of_update (update_after cpus j s o x)
+told_after cpus (Lookup l) o x = break_value (lookup_after l x)
+told_after cpus (Update j s) o x = break_value (update_after cpus j s o x)
 
 -- A turn may be taken.
 pub record Ready (m : Mem) (p : ℕ) (c : Cpu) (o : List ℕ) : Type 0 where

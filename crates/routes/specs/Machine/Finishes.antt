@@ -9,12 +9,12 @@ use Rattle.routes.specs.declared.update.finish.Finish.{Finish}
 use Rattle.routes.specs.declared.update.finish.Finish.TheVariants.{Unused, Unlock}
 use Rattle.routes.specs.declared.update.Phase.{Phase}
 use Rattle.routes.specs.declared.update.Phase.TheVariants.{Finish as InFinish}
-use Rattle.routes.specs.declared.update.UpdateNext.{UpdateNext}
-use Rattle.routes.specs.declared.update.UpdateNext.TheVariants.{On, Told}
 use Rattle.routes.specs.Memory.{Mem}
 use Rattle.routes.specs.Machine.Acts.{PhaseReady, Moved}
 use Rattle.routes.specs.Machine.Jobs.{using'}
 use Rattle.routes.specs.Machine.Obtains.{fresh_in}
+use Rattle.routes.specs.Machine.Nexts.{UpdateNext}
+use Rattle.std.specs.declared.ops.ControlFlow.TheVariants.{Continue, Break}
 
 -- where an update goes when it has reclaimed
 abbrev pub finishing : Job → Phase
@@ -29,8 +29,8 @@ finish_act p j Unused o = Release (fresh_in o j.used)
 finish_act p j Unlock o = Swap 0 0 (p + 1) 0
 
 abbrev pub finish_after : Job → Finish → ℕ → UpdateNext
-finish_after j Unused x = On (using' (j.used + 1) j) (finishing (using' (j.used + 1) j))
-finish_after j Unlock x = Told Done
+finish_after j Unused x = Continue (using' (j.used + 1) j, finishing (using' (j.used + 1) j))
+finish_after j Unlock x = Break Done
 
 abbrev pub FinishReady : Mem → ℕ → Job → Finish → List ℕ → Type 0
 FinishReady m p j s o = PhaseReady m p (finish_act p j s o) (FinishOk j s) o

@@ -3,9 +3,9 @@
 use Rattle.std.specs.Prelude.{ℕ, ◌-◌, ◌<◌}
 use Rattle.routes.specs.declared.lookup.Lookup.{Lookup}
 use Rattle.routes.specs.declared.lookup.Lookup.TheVariants.{Epoch, Announce, Root, Node, Leave}
-use Rattle.routes.specs.declared.lookup.LookupNext.{LookupNext}
-use Rattle.routes.specs.declared.lookup.LookupNext.TheVariants.{On, Told}
 use Rattle.routes.specs.Machine.Lookups.{LookupOk, lookup_after}
+use Rattle.routes.specs.Machine.Nexts.{LookupNext}
+use Rattle.std.specs.declared.ops.ControlFlow.TheVariants.{Continue, Break}
 
 -- how many turns a lookup still has at most: 13 from its beginning
 abbrev pub turns_left : Lookup → ℕ
@@ -16,8 +16,8 @@ turns_left (Node a e d b best) = 10 - d
 turns_left (Leave e best) = 1
 
 abbrev pub turns_after : LookupNext → ℕ
-turns_after (On l) = turns_left l
-turns_after (Told a) = 0
+turns_after (Continue l) = turns_left l
+turns_after (Break a) = 0
 
 -- Each turn of a lookup brings it nearer to its end, whatever the memory replies.
 abbrev pub LookupsEnd : Type 0

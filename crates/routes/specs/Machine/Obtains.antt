@@ -12,11 +12,11 @@ use Rattle.routes.specs.declared.update.obtain.Obtain.{Obtain}
 use Rattle.routes.specs.declared.update.obtain.Obtain.TheVariants.{Get, Undo, Full}
 use Rattle.routes.specs.declared.update.recycle.Recycle.TheVariants.{Head}
 use Rattle.routes.specs.declared.update.Phase.TheVariants.{Build as InBuild, Obtain as InObtain, Recycle as InRecycle}
-use Rattle.routes.specs.declared.update.UpdateNext.{UpdateNext}
-use Rattle.routes.specs.declared.update.UpdateNext.TheVariants.{On, Told}
 use Rattle.routes.specs.Memory.{Mem}
 use Rattle.routes.specs.Machine.Acts.{PhaseReady, MovedOwn}
 use Rattle.routes.specs.Machine.Jobs.{having}
+use Rattle.routes.specs.Machine.Nexts.{UpdateNext}
+use Rattle.std.specs.declared.ops.ControlFlow.TheVariants.{Continue, Break}
 
 -- block number i of those got
 abbrev pub fresh_in : List ℕ → ℕ → ℕ
@@ -24,11 +24,11 @@ fresh_in o i = child_of (words_of o (fresh_at i))
 
 -- with one block more: on to the next, or to build if all are there
 abbrev pub gathering : Job → UpdateNext
-gathering j = cond (nat_lt j.got j.need) (On j (InObtain Get)) (On j (InBuild Root))
+gathering j = cond (nat_lt j.got j.need) (Continue (j, InObtain Get)) (Continue (j, InBuild Root))
 
 -- what was got goes back
 abbrev pub undoing : Job → UpdateNext
-undoing j = cond (nat_lt 0 j.got) (On j (InObtain Undo)) (On j (InObtain Full))
+undoing j = cond (nat_lt 0 j.got) (Continue (j, InObtain Undo)) (Continue (j, InObtain Full))
 
 abbrev pub ObtainOk : Job → Obtain → Type 0
 ObtainOk j Get = (j.got < j.need) × (j.need ≤ 72)
@@ -42,7 +42,7 @@ obtain_act p j Full o = Swap 0 0 (p + 1) 0
 
 -- after it was asked for a block
 abbrev pub after_get : Job → ℕ → UpdateNext
-after_get j zero = On j (InRecycle Head)
+after_get j zero = Continue (j, InRecycle Head)
 after_get j (suc b) = gathering (having (j.got + 1) j)
 
 abbrev pub words_after_get : Job → List ℕ → ℕ → List ℕ
@@ -52,7 +52,7 @@ words_after_get j o (suc b) = slice_set o (fresh_at j.got) b
 abbrev pub obtain_after : Job → Obtain → ℕ → UpdateNext
 obtain_after j Get x = after_get j x
 obtain_after j Undo x = undoing (having (j.got - 1) j)
-obtain_after j Full x = Told FullAnswer
+obtain_after j Full x = Break FullAnswer
 
 abbrev pub obtain_words : Job → Obtain → List ℕ → ℕ → List ℕ
 obtain_words j Get o x = words_after_get j o x

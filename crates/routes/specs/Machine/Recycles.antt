@@ -10,20 +10,20 @@ use Rattle.routes.specs.declared.update.recycle.Recycle.{Recycle}
 use Rattle.routes.specs.declared.update.recycle.Recycle.TheVariants.{Head, RetiredAt, Next, SetHead, SetTail}
 use Rattle.routes.specs.declared.update.scan.Scan.TheVariants.{ForNode}
 use Rattle.routes.specs.declared.update.Phase.TheVariants.{Recycle as InRecycle, Scan as InScan}
-use Rattle.routes.specs.declared.update.UpdateNext.{UpdateNext}
-use Rattle.routes.specs.declared.update.UpdateNext.TheVariants.{On}
 use Rattle.routes.specs.Memory.{Mem}
 use Rattle.routes.specs.Machine.Acts.{PhaseReady, MovedOwn}
 use Rattle.routes.specs.Machine.Jobs.{having}
 use Rattle.routes.specs.Machine.Obtains.{gathering, undoing}
+use Rattle.routes.specs.Machine.Nexts.{UpdateNext}
+use Rattle.std.specs.declared.ops.ControlFlow.TheVariants.{Continue}
 
 -- the oldest retired node, if there is one
 abbrev pub oldest : Job → ℕ → UpdateNext
-oldest j b = cond (b == 0) (undoing j) (On j (InRecycle (RetiredAt b)))
+oldest j b = cond (b == 0) (undoing j) (Continue (j, InRecycle (RetiredAt b)))
 
 -- the head of limbo is what followed the node
 abbrev pub unlinked : Job → ℕ → UpdateNext
-unlinked j next = cond (next == 0) (On j (InRecycle SetTail)) (gathering j)
+unlinked j next = cond (next == 0) (Continue (j, InRecycle SetTail)) (gathering j)
 
 abbrev pub RecycleOk : Job → Recycle → Type 0
 RecycleOk j Head = Unit {0}
@@ -41,8 +41,8 @@ recycle_act SetTail = Store 0 4 0
 
 abbrev pub recycle_after : Job → Recycle → ℕ → UpdateNext
 recycle_after j Head x = oldest j (child_of x)
-recycle_after j (RetiredAt b) x = On j (InScan (ForNode 0 b x))
-recycle_after j (Next b g) x = On j (InRecycle (SetHead b (child_of x) g))
+recycle_after j (RetiredAt b) x = Continue (j, InScan (ForNode 0 b x))
+recycle_after j (Next b g) x = Continue (j, InRecycle (SetHead b (child_of x) g))
 recycle_after j (SetHead b next g) x = unlinked (having (j.got + 1) j) next
 recycle_after j SetTail x = gathering j
 

@@ -8,8 +8,6 @@ use Rattle.routes.specs.declared.update.job.Job.{Job}
 use Rattle.routes.specs.declared.update.check.Check.TheVariants.{Piece}
 use Rattle.routes.specs.declared.update.Phase.{Phase}
 use Rattle.routes.specs.declared.update.Phase.TheVariants.{Refuse, Lock, Check, Obtain, Recycle, Scan, Build, Publish, Retire, Reclaim, Finish}
-use Rattle.routes.specs.declared.update.UpdateNext.{UpdateNext}
-use Rattle.routes.specs.declared.update.UpdateNext.TheVariants.{On, Told}
 use Rattle.routes.specs.Memory.{Mem}
 use Rattle.routes.specs.Machine.Acts.{PhaseReady, MovedOwn}
 use Rattle.routes.specs.Machine.Checks.{CheckOk, check_act, check_after}
@@ -21,6 +19,8 @@ use Rattle.routes.specs.Machine.Publishes.{publish_act, publish_after}
 use Rattle.routes.specs.Machine.Retires.{RetireOk, retire_act, retire_after}
 use Rattle.routes.specs.Machine.Reclaims.{reclaim_act, reclaim_after}
 use Rattle.routes.specs.Machine.Finishes.{FinishOk, finish_act, finish_after}
+use Rattle.routes.specs.Machine.Nexts.{UpdateNext}
+use Rattle.std.specs.declared.ops.ControlFlow.TheVariants.{Continue, Break}
 
 -- the lock was free, or it has to be tried again
 abbrev pub after_lock : ℕ → Phase
@@ -54,16 +54,16 @@ update_act p j (Finish s) o = finish_act p j s o
 
 -- by the number of processors and the reply
 abbrev pub update_after : ℕ → Job → Phase → List ℕ → ℕ → UpdateNext
-update_after cpus j Refuse o x = Told (No 1)
-update_after cpus j Lock o x = On j (after_lock x)
+update_after cpus j Refuse o x = Break (No 1)
+update_after cpus j Lock o x = Continue (j, after_lock x)
 update_after cpus j (Check s) o x = check_after j s o x
 update_after cpus j (Obtain s) o x = obtain_after j s x
 update_after cpus j (Recycle s) o x = recycle_after j s x
-update_after cpus j (Scan s) o x = On j (scan_after cpus s x)
+update_after cpus j (Scan s) o x = Continue (j, scan_after cpus s x)
 update_after cpus j (Build s) o x = build_after j s o x
-update_after cpus j (Publish s) o x = On j (publish_after s x)
-update_after cpus j (Retire s) o x = On j (retire_after j s x)
-update_after cpus j (Reclaim s) o x = On j (reclaim_after j s x)
+update_after cpus j (Publish s) o x = Continue (j, publish_after s x)
+update_after cpus j (Retire s) o x = Continue (j, retire_after j s x)
+update_after cpus j (Reclaim s) o x = Continue (j, reclaim_after j s x)
 update_after cpus j (Finish s) o x = finish_after j s x
 
 abbrev pub update_words : Job → Phase → List ℕ → ℕ → List ℕ

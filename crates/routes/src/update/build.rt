@@ -1,16 +1,17 @@
 // Build: a copy of the nodes on the way to each piece, in fresh blocks, piece by piece on a working root.
-ghost use Rattle.std.specs.Prelude.{◌≡◌, ◌+◌, ◌<◌, ◌≤◌, length};
+ghost use Rattle.std.specs.Prelude.{◌≡◌, ◌+◌, ◌<◌, ◌≤◌};
 ghost use Rattle.routes.specs.declared.update.build.Build.TheVariants.{Read as AtRead, Edit as AtEdit, Write as AtWrite};
 ghost use Rattle.routes.specs.Machine.Builds.{BuildOk, BuildReady, BuildMoved, build_after, build_words, starting as starting_of, after_read, after_edit, after_write};
 
-use super::super::Memory;
-use super::super::header::load_root;
-use super::super::node::{load_word, store_word};
 use super::check::prefix_at;
 use super::job::Job;
 use super::publish::Publish;
 use super::{Phase, UpdateNext};
-use own::{edit_piece, fresh_at, image_at, image_word, note_path, note_word};
+use crate::Memory;
+use crate::access::{load, store};
+use crate::header::{HEADER, ROOT};
+use own::{OwnWords, edit_piece, fresh_at, image_at, image_word, note_path, note_word};
+use std::ops::ControlFlow::Continue;
 use words::{block_of, nib};
 
 #[derive(Clone, Copy)]
@@ -42,9 +43,9 @@ fn starting(job: Job, k: u32) -> UpdateNext
     ensures { result ≡ starting_of job k }
 {
     if job.root == 0 {
-        UpdateNext::On(job, Phase::Build(Build::Edit { k, have: 0 }))
+        Continue((job, Phase::Build(Build::Edit { k, have: 0 })))
     } else {
-        UpdateNext::On(
+        Continue((
             job,
             Phase::Build(Build::Read {
                 k,
@@ -52,7 +53,7 @@ fn starting(job: Job, k: u32) -> UpdateNext
                 word: 0,
                 node: job.root,
             }),
-        )
+        ))
     }
 }
 
@@ -62,7 +63,7 @@ fn after_read(job: Job, k: u32, level: u8, word: u32, node: u32, deep: u8, child
     ensures { result ≡ after_read job k level word node deep child }
 {
     if word < 30 {
-        UpdateNext::On(
+        Continue((
             job,
             Phase::Build(Build::Read {
                 k,
@@ -70,11 +71,11 @@ fn after_read(job: Job, k: u32, level: u8, word: u32, node: u32, deep: u8, child
                 word: word + 1,
                 node,
             }),
-        )
+        ))
     } else if level == deep || child == 0 {
-        UpdateNext::On(job, Phase::Build(Build::Edit { k, have: level + 1 }))
+        Continue((job, Phase::Build(Build::Edit { k, have: level + 1 })))
     } else {
-        UpdateNext::On(
+        Continue((
             job,
             Phase::Build(Build::Read {
                 k,
@@ -82,7 +83,7 @@ fn after_read(job: Job, k: u32, level: u8, word: u32, node: u32, deep: u8, child
                 word: 0,
                 node: child,
             }),
-        )
+        ))
     }
 }
 
@@ -94,14 +95,14 @@ fn read<M: Memory>(
     node: u32,
     w: &mut M,
     p: u32,
-    own: &mut [u64],
+    own: &mut OwnWords,
 ) -> UpdateNext
     requires ready { BuildReady (M.mem w.old) p job (AtRead k level word node) own.old }
     ensures moved { BuildMoved p job (AtRead k level word node) (M.mem w.old) own.old result (M.mem w.new) own.new }
     ensures unseen { M.seen w.new ≡ M.seen w.old }
 {
     let prefix = prefix_at(own, k);
-    let x = load_word(w, p, node, word);
+    let x = load(w, p, node, word);
     note_word(own, level, word, x);
     note_path(own, job.retired, level, node);
     let child = block_of(own[image_at(level, nib(level, prefix.bits))]);
@@ -116,11 +117,11 @@ fn after_edit(job: Job, k: u32, have: u8, levels: u32, root: u32) -> UpdateNext
     let first = job.used;
     let job = Job {
         used: first + levels,
-        retired: job.retired + have as u32,
+        retired: job.retired + u32::from(have),
         root,
         ..job
     };
-    UpdateNext::On(
+    Continue((
         job,
         Phase::Build(Build::Write {
             k,
@@ -128,11 +129,11 @@ fn after_edit(job: Job, k: u32, have: u8, levels: u32, root: u32) -> UpdateNext
             level: 0,
             word: 0,
         }),
-    )
+    ))
 }
 
-fn edit(job: Job, k: u32, have: u8, own: &mut [u64]) -> UpdateNext
-    requires { (BuildOk job (AtEdit k have) own.old) × (length own.old ≡ 4096) }
+fn edit(job: Job, k: u32, have: u8, own: &mut OwnWords) -> UpdateNext
+    requires { BuildOk job (AtEdit k have) own.old }
     ensures next { result ≡ build_after job (AtEdit k have) own.old 0 }
     ensures words { own.new ≡ build_words job (AtEdit k have) own.old 0 }
 {
@@ -147,7 +148,7 @@ fn after_write(job: Job, k: u32, first: u32, level: u8, word: u32) -> UpdateNext
     ensures { result ≡ after_write job k first level word }
 {
     if word < 30 {
-        UpdateNext::On(
+        Continue((
             job,
             Phase::Build(Build::Write {
                 k,
@@ -155,9 +156,9 @@ fn after_write(job: Job, k: u32, first: u32, level: u8, word: u32) -> UpdateNext
                 level,
                 word: word + 1,
             }),
-        )
-    } else if first + level as u32 + 1 < job.used {
-        UpdateNext::On(
+        ))
+    } else if first + u32::from(level) + 1 < job.used {
+        Continue((
             job,
             Phase::Build(Build::Write {
                 k,
@@ -165,11 +166,11 @@ fn after_write(job: Job, k: u32, first: u32, level: u8, word: u32) -> UpdateNext
                 level: level + 1,
                 word: 0,
             }),
-        )
+        ))
     } else if k + 1 < job.size {
         starting(job, k + 1)
     } else {
-        UpdateNext::On(job, Phase::Publish(Publish::FenceNodes))
+        Continue((job, Phase::Publish(Publish::FenceNodes)))
     }
 }
 
@@ -181,30 +182,36 @@ fn write<M: Memory>(
     word: u32,
     w: &mut M,
     p: u32,
-    own: &mut [u64],
+    own: &mut OwnWords,
 ) -> UpdateNext
     requires ready { BuildReady (M.mem w.old) p job (AtWrite k first level word) own.old }
     ensures moved { BuildMoved p job (AtWrite k first level word) (M.mem w.old) own.old result (M.mem w.new) own.new }
     ensures unseen { M.seen w.new ≡ M.seen w.old }
 {
-    store_word(
+    store(
         w,
         p,
-        fresh_at(own, first + level as u32),
+        fresh_at(own, first + u32::from(level)),
         word,
         image_word(own, level, word),
     );
     after_write(job, k, first, level, word)
 }
 
-pub fn step_build<M: Memory>(job: Job, s: Build, w: &mut M, p: u32, own: &mut [u64]) -> UpdateNext
+pub fn step_build<M: Memory>(
+    job: Job,
+    s: Build,
+    w: &mut M,
+    p: u32,
+    own: &mut OwnWords,
+) -> UpdateNext
     requires ready { BuildReady (M.mem w.old) p job s own.old }
     ensures moved { BuildMoved p job s (M.mem w.old) own.old result (M.mem w.new) own.new }
     ensures unseen { M.seen w.new ≡ M.seen w.old }
 {
     match s {
         Build::Root => {
-            let root = block_of(load_root(w, p));
+            let root = block_of(load(w, p, HEADER, ROOT));
             starting(Job { root, ..job }, 0)
         }
         Build::Read {

@@ -2,12 +2,13 @@
 ghost use Rattle.std.specs.Prelude.{◌≡◌};
 ghost use Rattle.routes.specs.Machine.Finishes.{FinishReady, FinishMoved, finishing as finishing_of};
 
-use super::super::header::unlock;
-use super::super::pool::give_back;
-use super::super::{Answer, Memory};
 use super::job::Job;
 use super::{Phase, UpdateNext};
-use own::fresh_at;
+use crate::access::give_back;
+use crate::header::unlock;
+use crate::{Answer, Memory};
+use own::{OwnWords, fresh_at};
+use std::ops::ControlFlow::{Break, Continue};
 
 #[derive(Clone, Copy)]
 pub enum Finish {
@@ -26,7 +27,7 @@ pub fn finishing(job: Job) -> Phase
     })
 }
 
-pub fn step_finish<M: Memory>(job: Job, s: Finish, w: &mut M, p: u32, own: &[u64]) -> UpdateNext
+pub fn step_finish<M: Memory>(job: Job, s: Finish, w: &mut M, p: u32, own: &OwnWords) -> UpdateNext
     requires ready { FinishReady (M.mem w.old) p job s own.now }
     ensures moved { FinishMoved p job s (M.mem w.old) own.now result (M.mem w.new) }
     ensures unseen { M.seen w.new ≡ M.seen w.old }
@@ -38,11 +39,11 @@ pub fn step_finish<M: Memory>(job: Job, s: Finish, w: &mut M, p: u32, own: &[u64
                 used: job.used + 1,
                 ..job
             };
-            UpdateNext::On(job, finishing(job))
+            Continue((job, finishing(job)))
         }
         Finish::Unlock => {
             let _was = unlock(w, p);
-            UpdateNext::Told(Answer::Done)
+            Break(Answer::Done)
         }
     }
 }

@@ -1,5 +1,5 @@
 // What an update has in hand all the way.
-#[derive(Clone, Copy)]
+#[derive(Clone, Copy, Default)]
 pub struct Job {
     // how many pieces it has
     pub size: u32,
@@ -9,6 +9,6 @@ pub struct Job {
     pub used: u32,
     // blocks that its working tree replaces
     pub retired: u32,
-    // the root of its working tree
+    // the root of its working tree; 0 for none, as in the words of the memory and in the registers that C keeps
     pub root: u32,
 }

@@ -3,14 +3,16 @@ ghost use Rattle.std.specs.Prelude.{◌≡◌};
 ghost use Rattle.routes.specs.declared.update.obtain.Obtain.TheVariants.{Get as AtGet, Undo as AtUndo};
 ghost use Rattle.routes.specs.Machine.Obtains.{ObtainReady, ObtainMoved, gathering as gathering_of, undoing as undoing_of};
 
-use super::super::header::unlock;
-use super::super::pool::{give_back, obtain};
-use super::super::{Answer, Memory};
 use super::build::Build;
 use super::job::Job;
 use super::recycle::Recycle;
 use super::{Phase, UpdateNext};
-use own::fresh_at;
+use crate::access::give_back;
+use crate::header::unlock;
+use crate::pool::obtain;
+use crate::{Answer, Memory};
+use own::{OwnWords, fresh_at};
+use std::ops::ControlFlow::{Break, Continue};
 
 #[derive(Clone, Copy)]
 pub enum Obtain {
@@ -25,9 +27,9 @@ pub fn gathering(job: Job) -> UpdateNext
     ensures { result ≡ gathering_of job }
 {
     if job.got < job.need {
-        UpdateNext::On(job, Phase::Obtain(Obtain::Get))
+        Continue((job, Phase::Obtain(Obtain::Get)))
     } else {
-        UpdateNext::On(job, Phase::Build(Build::Root))
+        Continue((job, Phase::Build(Build::Root)))
     }
 }
 
@@ -36,13 +38,13 @@ pub fn undoing(job: Job) -> UpdateNext
     ensures { result ≡ undoing_of job }
 {
     if job.got > 0 {
-        UpdateNext::On(job, Phase::Obtain(Obtain::Undo))
+        Continue((job, Phase::Obtain(Obtain::Undo)))
     } else {
-        UpdateNext::On(job, Phase::Obtain(Obtain::Full))
+        Continue((job, Phase::Obtain(Obtain::Full)))
     }
 }
 
-fn get<M: Memory>(job: Job, w: &mut M, p: u32, own: &mut [u64]) -> UpdateNext
+fn get<M: Memory>(job: Job, w: &mut M, p: u32, own: &mut OwnWords) -> UpdateNext
     requires ready { ObtainReady (M.mem w.old) p job AtGet own.old }
     ensures moved { ObtainMoved p job AtGet (M.mem w.old) own.old result (M.mem w.new) own.new }
     ensures unseen { M.seen w.new ≡ M.seen w.old }
@@ -55,11 +57,11 @@ fn get<M: Memory>(job: Job, w: &mut M, p: u32, own: &mut [u64]) -> UpdateNext
                 ..job
             })
         }
-        None => UpdateNext::On(job, Phase::Recycle(Recycle::Head)),
+        None => Continue((job, Phase::Recycle(Recycle::Head))),
     }
 }
 
-fn undo<M: Memory>(job: Job, w: &mut M, p: u32, own: &mut [u64]) -> UpdateNext
+fn undo<M: Memory>(job: Job, w: &mut M, p: u32, own: &mut OwnWords) -> UpdateNext
     requires ready { ObtainReady (M.mem w.old) p job AtUndo own.old }
     ensures moved { ObtainMoved p job AtUndo (M.mem w.old) own.old result (M.mem w.new) own.new }
     ensures unseen { M.seen w.new ≡ M.seen w.old }
@@ -69,7 +71,13 @@ fn undo<M: Memory>(job: Job, w: &mut M, p: u32, own: &mut [u64]) -> UpdateNext
     undoing(Job { got, ..job })
 }
 
-pub fn step_obtain<M: Memory>(job: Job, s: Obtain, w: &mut M, p: u32, own: &mut [u64]) -> UpdateNext
+pub fn step_obtain<M: Memory>(
+    job: Job,
+    s: Obtain,
+    w: &mut M,
+    p: u32,
+    own: &mut OwnWords,
+) -> UpdateNext
     requires ready { ObtainReady (M.mem w.old) p job s own.old }
     ensures moved { ObtainMoved p job s (M.mem w.old) own.old result (M.mem w.new) own.new }
     ensures unseen { M.seen w.new ≡ M.seen w.old }
@@ -79,7 +87,7 @@ pub fn step_obtain<M: Memory>(job: Job, s: Obtain, w: &mut M, p: u32, own: &mut 
         Obtain::Undo => undo(job, w, p, own),
         Obtain::Full => {
             let _was = unlock(w, p);
-            UpdateNext::Told(Answer::Full)
+            Break(Answer::Full)
         }
     }
 }

@@ -3,12 +3,12 @@ ghost use Rattle.std.specs.Prelude.{◌≡◌};
 ghost use Rattle.routes.specs.Machine.Acts.{MayDo};
 ghost use Rattle.routes.specs.Machine.Publishes.{PublishMoved, publish_act};
 
-use super::super::Memory;
-use super::super::header::store_root;
-use super::super::pool::fence;
 use super::Phase;
 use super::job::Job;
 use super::retire::Retire;
+use crate::Memory;
+use crate::access::{fence, store};
+use crate::header::{HEADER, ROOT};
 
 #[derive(Clone, Copy)]
 pub enum Publish {
@@ -31,7 +31,7 @@ pub fn step_publish<M: Memory>(job: Job, s: Publish, w: &mut M, p: u32) -> Phase
             Phase::Publish(Publish::SetRoot)
         }
         Publish::SetRoot => {
-            store_root(w, p, job.root);
+            store(w, p, HEADER, ROOT, u64::from(job.root));
             Phase::Publish(Publish::FenceRoot)
         }
         Publish::FenceRoot => {

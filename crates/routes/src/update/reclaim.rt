@@ -4,14 +4,14 @@ ghost use Rattle.routes.specs.declared.act.Act.TheVariants.{Release};
 ghost use Rattle.routes.specs.Machine.Acts.{MayDo, Did};
 ghost use Rattle.routes.specs.Machine.Reclaims.{ReclaimMoved, reclaim_act, released as released_of, unlinked as unlinked_of};
 
-use super::super::Memory;
-use super::super::header::{load_limbo_head, store_limbo_head, store_limbo_tail};
-use super::super::node::{load_next_retired, load_retired_at};
-use super::super::pool::give_back;
 use super::Phase;
 use super::finish::finishing;
 use super::job::Job;
 use super::scan::GracePeriod;
+use crate::Memory;
+use crate::access::{give_back, load, store};
+use crate::header::{HEADER, LIMBO_HEAD, LIMBO_TAIL};
+use crate::node::{NEXT_RETIRED, RETIRED_AT};
 use words::block_of;
 
 // One update gives back at most so many, more than it can retire.
@@ -93,7 +93,7 @@ pub fn step_reclaim<M: Memory>(job: Job, s: Reclaim, w: &mut M, p: u32) -> Phase
 {
     match s {
         Reclaim::Head { grace, left } => {
-            let node = block_of(load_limbo_head(w, p));
+            let node = block_of(load(w, p, HEADER, LIMBO_HEAD));
             if node == 0 {
                 finishing(job)
             } else {
@@ -101,7 +101,7 @@ pub fn step_reclaim<M: Memory>(job: Job, s: Reclaim, w: &mut M, p: u32) -> Phase
             }
         }
         Reclaim::RetiredAt { grace, left, node } => {
-            let stamp = load_retired_at(w, p, node);
+            let stamp = load(w, p, node, RETIRED_AT);
             if grace.covers(stamp) {
                 Phase::Reclaim(Reclaim::Next { grace, left, node })
             } else {
@@ -109,7 +109,7 @@ pub fn step_reclaim<M: Memory>(job: Job, s: Reclaim, w: &mut M, p: u32) -> Phase
             }
         }
         Reclaim::Next { grace, left, node } => {
-            let next = block_of(load_next_retired(w, p, node));
+            let next = block_of(load(w, p, node, NEXT_RETIRED));
             Phase::Reclaim(Reclaim::SetHead {
                 grace,
                 left,
@@ -123,11 +123,11 @@ pub fn step_reclaim<M: Memory>(job: Job, s: Reclaim, w: &mut M, p: u32) -> Phase
             node,
             next,
         } => {
-            store_limbo_head(w, p, next);
+            store(w, p, HEADER, LIMBO_HEAD, u64::from(next));
             unlinked(grace, left, node, next)
         }
         Reclaim::SetTail { grace, left, node } => {
-            store_limbo_tail(w, p, 0);
+            store(w, p, HEADER, LIMBO_TAIL, 0);
             Phase::Reclaim(Reclaim::Release { grace, left, node })
         }
         Reclaim::Release { grace, left, node } => {

@@ -1,17 +1,19 @@
 // Recycle: where the pool has no block left, the oldest retired node becomes a fresh block, once nobody can be reading it.
-ghost use Rattle.std.specs.Prelude.{◌≡◌, ◌<◌, length, slice_set};
+ghost use Rattle.std.specs.Prelude.{◌≡◌, ◌<◌, slice_set};
 ghost use Rattle.own.specs.Layout.{fresh_at};
 ghost use Rattle.routes.specs.declared.update.recycle.Recycle.TheVariants.{SetHead as AtSetHead};
 ghost use Rattle.routes.specs.Machine.Recycles.{RecycleReady, RecycleMoved, oldest as oldest_of, unlinked as unlinked_of};
 
-use super::super::Memory;
-use super::super::header::{load_limbo_head, store_limbo_head, store_limbo_tail};
-use super::super::node::{load_next_retired, load_retired_at};
 use super::job::Job;
 use super::obtain::{gathering, undoing};
 use super::scan::{GracePeriod, Scan};
 use super::{Phase, UpdateNext};
-use own::keep_fresh;
+use crate::Memory;
+use crate::access::{load, store};
+use crate::header::{HEADER, LIMBO_HEAD, LIMBO_TAIL};
+use crate::node::{NEXT_RETIRED, RETIRED_AT};
+use own::{OwnWords, keep_fresh};
+use std::ops::ControlFlow::Continue;
 use words::block_of;
 
 // grace: what the scan has shown of the node.
@@ -40,13 +42,13 @@ fn oldest(job: Job, node: u32) -> UpdateNext
     if node == 0 {
         undoing(job)
     } else {
-        UpdateNext::On(job, Phase::Recycle(Recycle::RetiredAt { node }))
+        Continue((job, Phase::Recycle(Recycle::RetiredAt { node })))
     }
 }
 
 // A node that nobody can be reading, by what the scan has shown, is a fresh block.
-fn reuse(own: &mut [u64], at: u32, node: u32, _grace: GracePeriod)
-    requires { (length own.old ≡ 4096) × (at < 72) }
+fn reuse(own: &mut OwnWords, at: u32, node: u32, _grace: GracePeriod)
+    requires { at < 72 }
     ensures { own.new ≡ slice_set own.old (fresh_at at) node }
 {
     keep_fresh(own, at, node);
@@ -57,7 +59,7 @@ fn unlinked(job: Job, next: u32) -> UpdateNext
     ensures { result ≡ unlinked_of job next }
 {
     if next == 0 {
-        UpdateNext::On(job, Phase::Recycle(Recycle::SetTail))
+        Continue((job, Phase::Recycle(Recycle::SetTail)))
     } else {
         gathering(job)
     }
@@ -70,13 +72,13 @@ fn set_head<M: Memory>(
     grace: GracePeriod,
     w: &mut M,
     p: u32,
-    own: &mut [u64],
+    own: &mut OwnWords,
 ) -> UpdateNext
     requires ready { RecycleReady (M.mem w.old) p job (AtSetHead node next grace) own.old }
     ensures moved { RecycleMoved p job (AtSetHead node next grace) (M.mem w.old) own.old result (M.mem w.new) own.new }
     ensures unseen { M.seen w.new ≡ M.seen w.old }
 {
-    store_limbo_head(w, p, next);
+    store(w, p, HEADER, LIMBO_HEAD, u64::from(next));
     reuse(own, job.got, node, grace);
     unlinked(
         Job {
@@ -92,25 +94,25 @@ pub fn step_recycle<M: Memory>(
     s: Recycle,
     w: &mut M,
     p: u32,
-    own: &mut [u64],
+    own: &mut OwnWords,
 ) -> UpdateNext
     requires ready { RecycleReady (M.mem w.old) p job s own.old }
     ensures moved { RecycleMoved p job s (M.mem w.old) own.old result (M.mem w.new) own.new }
     ensures unseen { M.seen w.new ≡ M.seen w.old }
 {
     match s {
-        Recycle::Head => oldest(job, block_of(load_limbo_head(w, p))),
+        Recycle::Head => oldest(job, block_of(load(w, p, HEADER, LIMBO_HEAD))),
         Recycle::RetiredAt { node } => {
-            let stamp = load_retired_at(w, p, node);
-            UpdateNext::On(job, Phase::Scan(Scan::ForNode { q: 0, node, stamp }))
+            let stamp = load(w, p, node, RETIRED_AT);
+            Continue((job, Phase::Scan(Scan::ForNode { q: 0, node, stamp })))
         }
         Recycle::Next { node, grace } => {
-            let next = block_of(load_next_retired(w, p, node));
-            UpdateNext::On(job, Phase::Recycle(Recycle::SetHead { node, next, grace }))
+            let next = block_of(load(w, p, node, NEXT_RETIRED));
+            Continue((job, Phase::Recycle(Recycle::SetHead { node, next, grace })))
         }
         Recycle::SetHead { node, next, grace } => set_head(job, node, next, grace, w, p, own),
         Recycle::SetTail => {
-            store_limbo_tail(w, p, 0);
+            store(w, p, HEADER, LIMBO_TAIL, 0);
             gathering(job)
         }
     }

@@ -1,18 +1,16 @@
 // Retire: the epoch is raised, and the nodes that were replaced go behind the tail of limbo, each with the epoch in which it was retired.
-ghost use Rattle.std.specs.Prelude.{◌≡◌, ◌<◌, length};
+ghost use Rattle.std.specs.Prelude.{◌≡◌, ◌<◌};
 ghost use Rattle.routes.specs.declared.update.retire.Retire.TheVariants.{SetNext as AtSetNext};
 ghost use Rattle.routes.specs.Machine.Retires.{RetireReady, RetireMoved, follower_in, after_epoch, after_next, after_tail};
 
-use super::super::Memory;
-use super::super::header::{
-    load_epoch, load_limbo_tail, store_epoch, store_limbo_head, store_limbo_tail,
-};
-use super::super::node::{store_next_retired, store_retired_at};
-use super::super::pool::fence;
 use super::Phase;
 use super::job::Job;
 use super::scan::Scan;
-use own::retired_at;
+use crate::Memory;
+use crate::access::{fence, load, store};
+use crate::header::{EPOCH, HEADER, LIMBO_HEAD, LIMBO_TAIL};
+use crate::node::{NEXT_RETIRED, RETIRED_AT};
+use own::{OwnWords, retired_at};
 use words::block_of;
 
 #[derive(Clone, Copy)]
@@ -65,8 +63,8 @@ fn after_tail(tail: u32) -> Phase
 }
 
 // The replaced node after node i, or 0.
-pub fn follower(job: Job, i: u32, own: &[u64]) -> u32
-    requires { (i < 72) × (length own.now ≡ 4096) }
+pub fn follower(job: Job, i: u32, own: &OwnWords) -> u32
+    requires { i < 72 }
     ensures { result ≡ follower_in job i own.now }
 {
     if i + 1 < job.retired {
@@ -76,45 +74,47 @@ pub fn follower(job: Job, i: u32, own: &[u64]) -> u32
     }
 }
 
-fn set_next<M: Memory>(job: Job, i: u32, epoch: u64, w: &mut M, p: u32, own: &[u64]) -> Phase
+fn set_next<M: Memory>(job: Job, i: u32, epoch: u64, w: &mut M, p: u32, own: &OwnWords) -> Phase
     requires ready { RetireReady (M.mem w.old) p job (AtSetNext i epoch) own.now }
     ensures moved { RetireMoved p job (AtSetNext i epoch) (M.mem w.old) own.now result (M.mem w.new) }
     ensures unseen { M.seen w.new ≡ M.seen w.old }
 {
-    store_next_retired(w, p, retired_at(own, i), follower(job, i, own));
+    let next = u64::from(follower(job, i, own));
+    store(w, p, retired_at(own, i), NEXT_RETIRED, next);
     after_next(job, i, epoch)
 }
 
-pub fn step_retire<M: Memory>(job: Job, s: Retire, w: &mut M, p: u32, own: &[u64]) -> Phase
+pub fn step_retire<M: Memory>(job: Job, s: Retire, w: &mut M, p: u32, own: &OwnWords) -> Phase
     requires ready { RetireReady (M.mem w.old) p job s own.now }
     ensures moved { RetireMoved p job s (M.mem w.old) own.now result (M.mem w.new) }
     ensures unseen { M.seen w.new ≡ M.seen w.old }
 {
     match s {
         Retire::Epoch => {
-            let epoch = load_epoch(w, p);
+            let epoch = load(w, p, HEADER, EPOCH);
             Phase::Retire(Retire::SetEpoch { epoch })
         }
         Retire::SetEpoch { epoch } => {
-            store_epoch(w, p, epoch + 1);
+            store(w, p, HEADER, EPOCH, epoch + 1);
             after_epoch(job, epoch)
         }
         Retire::SetAt { i, epoch } => {
-            store_retired_at(w, p, retired_at(own, i), epoch);
+            store(w, p, retired_at(own, i), RETIRED_AT, epoch);
             Phase::Retire(Retire::SetNext { i, epoch })
         }
         Retire::SetNext { i, epoch } => set_next(job, i, epoch, w, p, own),
-        Retire::Tail => after_tail(block_of(load_limbo_tail(w, p))),
+        Retire::Tail => after_tail(block_of(load(w, p, HEADER, LIMBO_TAIL))),
         Retire::SetHead => {
-            store_limbo_head(w, p, retired_at(own, 0));
+            store(w, p, HEADER, LIMBO_HEAD, u64::from(retired_at(own, 0)));
             Phase::Retire(Retire::SetTail)
         }
         Retire::Link { tail } => {
-            store_next_retired(w, p, tail, retired_at(own, 0));
+            store(w, p, tail, NEXT_RETIRED, u64::from(retired_at(own, 0)));
             Phase::Retire(Retire::SetTail)
         }
         Retire::SetTail => {
-            store_limbo_tail(w, p, retired_at(own, job.retired - 1));
+            let last = u64::from(retired_at(own, job.retired - 1));
+            store(w, p, HEADER, LIMBO_TAIL, last);
             Phase::Retire(Retire::Fence)
         }
         Retire::Fence => {

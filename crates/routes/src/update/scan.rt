@@ -3,11 +3,12 @@ ghost use Rattle.std.specs.Prelude.{◌≡◌, ◌+◌, ◌^◌, ◌<◌, nat_lt
 ghost use Rattle.routes.specs.Machine.Acts.{MayDo};
 ghost use Rattle.routes.specs.Machine.Scans.{ScanOk, ScanMoved, scan_act, announced_before, passed_for, passed_with};
 
-use super::super::Memory;
-use super::super::header::load_active;
 use super::Phase;
 use super::reclaim::{MOST_RELEASED, Reclaim};
 use super::recycle::Recycle;
+use crate::Memory;
+use crate::access::load;
+use crate::header::{ACTIVE, HEADER};
 
 // What a finished scan has shown: nobody is reading a node that was retired before this epoch. Only the end of a scan makes one; `restored` brings back one that was saved.
 #[derive(Clone, Copy)]
@@ -96,7 +97,7 @@ pub fn step_scan<M: Memory>(s: Scan, w: &mut M, p: u32) -> Phase
     let cpus = w.cpus();
     match s {
         Scan::ForNode { q, node, stamp } => {
-            let announced = load_active(w, p, q);
+            let announced = load(w, p, HEADER, ACTIVE + q);
             if announced_before(announced, stamp + 1) {
                 Phase::Scan(Scan::ForNode { q, node, stamp })
             } else {
@@ -104,7 +105,7 @@ pub fn step_scan<M: Memory>(s: Scan, w: &mut M, p: u32) -> Phase
             }
         }
         Scan::ForLimit { q, limit } => {
-            let announced = load_active(w, p, q);
+            let announced = load(w, p, HEADER, ACTIVE + q);
             let limit = if announced_before(announced, limit) {
                 announced - 1
             } else {

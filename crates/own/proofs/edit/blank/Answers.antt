@@ -1,15 +1,24 @@
-use Rattle.std.proofs.Common.{◌≡◌, ℕ, ◌+◌, List, set, refl, ap, ◌∙◌, add-one, rules}
+use Rattle.std.proofs.Common.{arith, ◌≡◌, ℕ, zero, suc, ◌+◌, ◌-◌, ◌≤◌, List, [], length, set, add-one, ◌∙◌, sym, ap}
+use Rattle.std.proofs.Math.ListN.{replicate}
+use Rattle.std.proofs.Math.Seq.{paste}
+use Rattle.std.proofs.lemmas.List.{length-replicate, length-take, length-drop}
+use Rattle.std.proofs.lemmas.List.Edits.{fill_from_more, paste_none}
+use Rattle.std.proofs.lemmas.Slice.{put_mid-paste}
+use borrow.Rule.Slice.PartMut.{mid_of}
 use Rattle.own.specs.Edits.{blank}
 use Rattle.own.proofs.edit.blank.Goals as goal
 
--- One more word is 0.
-more : (o s r : List ℕ) (start i : ℕ) → s ≡ blank o start i → r ≡ set s (start + i) 0 → r ≡ blank o start (i + 1)
+-- Words that are blanked are a row of noughts in their place.
+blank_is_noughts : (o : List ℕ) (start n : ℕ) → start + n ≤ length o → paste o start (replicate n 0) n ≡ blank o start n
 unfolding blank
-more o s r start i e t = rw add-one (t ∙ ap (λ z. set z (start + i) 0) e)
+blank_is_noughts o start zero h = sym (paste_none o start [])
+blank_is_noughts o start (suc n) h =
+    let more : paste o start (replicate (n + 1) 0) (n + 1) ≡ set (blank o start n) (start + n) 0 = sym (fill_from_more o start n 0 (omega arith)) ∙ ap (λ z. set z (start + n) 0) (blank_is_noughts o start n (omega arith)) in
+    rw add-one at more
 
-pub loop-i-init : goal.loop-i-init
-unfolding blank
-loop-i-init c = refl
-
-pub loop-i-preserved : goal.loop-i-preserved
-loop-i-preserved c = more c.args.own.now c.loop-i.own _ c.args.start c.loop-i.i c.loop-i.invariant (search rules)
+pub returns : goal.returns
+returns c =
+    let filled = c.fill.ensures.after (λ y e. e) in
+    let many : length (mid_of c.args.start (c.args.start + c.args.many - c.args.start) c.args.own.now) ≡ c.args.many = simp (length-take, length-drop) (omega arith) in
+    put_mid-paste c.args.start _ c.args.own.now _ (replicate c.args.many 0) c.args.many (filled ∙ ap (λ n. replicate n 0) many) (omega arith) (sym (length-replicate c.args.many 0))
+    ∙ blank_is_noughts c.args.own.now c.args.start c.args.many (omega arith)

@@ -18,10 +18,10 @@ pub trait Guard: Memory {
 pub fn may_step<G: Guard>(w: &G, p: u32, cpu: &Cpu, own: &[u64]) -> bool
     ensures { T result → Ready (G.Memory.mem w.now) p cpu.now own.now }
 {
-    own.len() == 4096
-        && p < 16
-        && work_ok(cpu.work, own)
-        && w.may_do(p, asks(p, cpu.work, own))
+    let Some(own) = own.as_array() else {
+        return false;
+    };
+    p < 16 && work_ok(cpu.work, own) && w.may_do(p, asks(p, cpu.work, own))
 }
 
 // The turn may not be taken: something would be touched that may not be.

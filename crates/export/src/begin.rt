@@ -4,13 +4,12 @@ ghost use Rattle.routes.specs.declared.Ask.TheVariants.{Change, Find};
 ghost use Rattle.export.specs.Begins.{Started, may_begin, Begun, BegunWith, may_update, piece_fits as piece_fits_of, pieces_fit as pieces_fit_of, piece_in, pieces_in};
 
 use crate::refusal::{Refusal, load};
+use own::OWN_WORDS;
 use port::{RegisterWords, save};
 use routes::lookup::Lookup;
 use routes::work::Work;
 use routes::{Ask, Cpu, Piece};
 use std::array;
-
-const OWN_WORDS: usize = 4096;
 
 // Eight pieces, each with four words.
 type PieceWords = [u64; 32];

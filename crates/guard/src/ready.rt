@@ -4,6 +4,7 @@ ghost use Rattle.routes.specs.Machine.Acts.{MayDo};
 ghost use Rattle.routes.specs.Machine.Cpus.{Ready};
 ghost use Rattle.guard.specs.Steps.{GuardedStep};
 
+use own::OwnWords;
 use port::{asks, work_ok};
 use routes::act::Act;
 use routes::{Answer, Cpu, Memory};
@@ -14,17 +15,21 @@ pub trait Guard: Memory {
         ensures { T result → MayDo (Self.Memory.mem self.now) p a };
 }
 
+// May a processor with these own words take its turn?
+fn may_take<G: Guard>(w: &G, p: u32, cpu: &Cpu, own: &OwnWords) -> bool
+    ensures { T result → Ready (G.Memory.mem w.now) p cpu.now own.now }
+{
+    p < 16 && work_ok(cpu.work, own) && w.may_do(p, asks(p, cpu.work, own))
+}
+
 // May processor p take its turn?
 pub fn may_step<G: Guard>(w: &G, p: u32, cpu: &Cpu, own: &[u64]) -> bool
     ensures { T result → Ready (G.Memory.mem w.now) p cpu.now own.now }
 {
-    if own.len() != 4096 || p >= 16 {
-        return false;
+    match own.as_array() {
+        Some(own) => may_take(w, p, cpu, own),
+        None => false,
     }
-    if !work_ok(cpu.work, own) {
-        return false;
-    }
-    w.may_do(p, asks(p, cpu.work, own))
 }
 
 // The turn may not be taken: something would be touched that may not be.
@@ -40,10 +45,7 @@ pub fn guarded_step<G: Guard>(
 ) -> Result<Option<Answer>, NotAllowed>
     ensures { GuardedStep p (G.Memory.mem w.old) cpu.old own.old result (G.Memory.mem w.new) cpu.new own.new }
 {
-    if !w.may_do(p, Act::Fence) {
-        return Err(NotAllowed);
-    }
-    if !may_step(w, p, cpu, own) {
+    if !w.may_do(p, Act::Fence) || !may_step(w, p, cpu, own) {
         return Err(NotAllowed);
     }
     Ok(cpu.step(w, p, own))

@@ -1,5 +1,5 @@
 // What the next turn of a processor asks of the memory.
-ghost use Rattle.std.specs.Prelude.{◌≡◌, ◌+◌, ◌<◌, length};
+ghost use Rattle.std.specs.Prelude.{◌≡◌, ◌+◌, ◌<◌};
 ghost use Rattle.routes.specs.declared.act.Act.TheVariants.{Swap};
 ghost use Rattle.routes.specs.Machine.Builds.{BuildOk, build_act};
 ghost use Rattle.routes.specs.Machine.Checks.{CheckOk, check_act};
@@ -14,7 +14,7 @@ ghost use Rattle.routes.specs.Machine.Retires.{RetireOk, retire_act};
 ghost use Rattle.routes.specs.Machine.Scans.{ScanOk, scan_act};
 ghost use Rattle.routes.specs.Machine.Updates.{UpdateOk, update_act};
 
-use own::{fresh_at, image_word, retired_at};
+use own::{OwnWords, fresh_at, image_word, retired_at};
 use routes::act::Act;
 use routes::lookup::Lookup;
 use routes::update::Phase;
@@ -73,8 +73,8 @@ fn lookup_asks(p: u32, l: Lookup) -> Act
     }
 }
 
-fn check_asks(p: u32, job: Job, s: Check, own: &[u64]) -> Act
-    requires { (CheckOk job s own.now) × (length own.now ≡ 4096) }
+fn check_asks(p: u32, job: Job, s: Check, own: &OwnWords) -> Act
+    requires { CheckOk job s own.now }
     ensures { result ≡ check_act p s own.now }
 {
     match s {
@@ -95,8 +95,8 @@ fn check_asks(p: u32, job: Job, s: Check, own: &[u64]) -> Act
     }
 }
 
-fn obtain_asks(p: u32, job: Job, s: Obtain, own: &[u64]) -> Act
-    requires { (ObtainOk job s) × (length own.now ≡ 4096) }
+fn obtain_asks(p: u32, job: Job, s: Obtain, own: &OwnWords) -> Act
+    requires { ObtainOk job s }
     ensures { result ≡ obtain_act p job s own.now }
 {
     match s {
@@ -146,8 +146,8 @@ fn scan_asks(s: Scan) -> Act
     }
 }
 
-fn build_asks(job: Job, s: Build, own: &[u64]) -> Act
-    requires { (BuildOk job s own.now) × (length own.now ≡ 4096) }
+fn build_asks(job: Job, s: Build, own: &OwnWords) -> Act
+    requires { BuildOk job s own.now }
     ensures { result ≡ build_act s own.now }
 {
     match s {
@@ -182,8 +182,8 @@ fn publish_asks(job: Job, s: Publish) -> Act
     }
 }
 
-fn retire_asks(job: Job, s: Retire, own: &[u64]) -> Act
-    requires { (RetireOk job s) × (length own.now ≡ 4096) }
+fn retire_asks(job: Job, s: Retire, own: &OwnWords) -> Act
+    requires { RetireOk job s }
     ensures { result ≡ retire_act job s own.now }
 {
     match s {
@@ -250,8 +250,8 @@ fn reclaim_asks(s: Reclaim) -> Act
     }
 }
 
-fn finish_asks(p: u32, job: Job, s: Finish, own: &[u64]) -> Act
-    requires { (FinishOk job s) × (length own.now ≡ 4096) }
+fn finish_asks(p: u32, job: Job, s: Finish, own: &OwnWords) -> Act
+    requires { FinishOk job s }
     ensures { result ≡ finish_act p job s own.now }
 {
     match s {
@@ -262,8 +262,8 @@ fn finish_asks(p: u32, job: Job, s: Finish, own: &[u64]) -> Act
     }
 }
 
-fn update_asks(p: u32, job: Job, phase: Phase, own: &[u64]) -> Act
-    requires { (UpdateOk job phase own.now) × (length own.now ≡ 4096) }
+fn update_asks(p: u32, job: Job, phase: Phase, own: &OwnWords) -> Act
+    requires { UpdateOk job phase own.now }
     ensures { result ≡ update_act p job phase own.now }
 {
     match phase {
@@ -287,8 +287,8 @@ fn update_asks(p: u32, job: Job, phase: Phase, own: &[u64]) -> Act
 }
 
 // What the next turn of processor p asks, which has this under way.
-pub fn asks(p: u32, work: Work, own: &[u64]) -> Act
-    requires { (WorkOk work own.now) × ((length own.now ≡ 4096) × (p < 16)) }
+pub fn asks(p: u32, work: Work, own: &OwnWords) -> Act
+    requires { (WorkOk work own.now) × (p < 16) }
     ensures { result ≡ act p work own.now }
 {
     match work {

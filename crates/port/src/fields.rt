@@ -9,11 +9,25 @@ mod obtain;
 mod retire;
 mod work;
 
+use routes::UnknownRefusal;
 use routes::update::job::Job;
+use std::num::TryFromIntError;
 
 // Numbers that nothing under way has.
 #[derive(Clone, Copy)]
 pub struct UnknownState;
+
+impl From<TryFromIntError> for UnknownState {
+    fn from(_e: TryFromIntError) -> UnknownState {
+        UnknownState
+    }
+}
+
+impl From<UnknownRefusal> for UnknownState {
+    fn from(_e: UnknownRefusal) -> UnknownState {
+        UnknownState
+    }
+}
 
 // An answer: found is 1, nothing 2, done 3, full 4, no 5 (with its number as the length).
 #[derive(Clone, Copy)]
@@ -54,15 +68,6 @@ const NO_FIELDS: Fields = Fields {
         len: 0,
         tells: 0,
     },
-};
-
-const NO_JOB: Job = Job {
-    size: 0,
-    need: 0,
-    got: 0,
-    used: 0,
-    retired: 0,
-    root: 0,
 };
 
 // All of it.

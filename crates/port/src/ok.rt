@@ -1,5 +1,5 @@
 // Are registers in the ranges that a turn needs?
-ghost use Rattle.std.specs.Prelude.{◌≡◌, ◌<◌, T, length};
+ghost use Rattle.std.specs.Prelude.{◌<◌, T};
 ghost use Rattle.routes.specs.Machine.Builds.{BuildOk, Building};
 ghost use Rattle.routes.specs.Machine.Checks.{CheckOk, CleanIn, AtPiece};
 ghost use Rattle.routes.specs.Machine.Cpus.{WorkOk};
@@ -11,7 +11,7 @@ ghost use Rattle.routes.specs.Machine.Retires.{RetireOk};
 ghost use Rattle.routes.specs.Machine.Scans.{ScanOk};
 ghost use Rattle.routes.specs.Machine.Updates.{UpdateOk};
 
-use own::piece_at;
+use own::{OwnWords, piece_at};
 use routes::lookup::Lookup;
 use routes::make_prefix;
 use routes::update::Phase;
@@ -38,8 +38,7 @@ fn lookup_ok(l: Lookup) -> bool
 }
 
 // Is piece k of an update a clean prefix?
-fn clean_in(own: &[u64], k: u32) -> bool
-    requires { length own.now ≡ 4096 }
+fn clean_in(own: &OwnWords, k: u32) -> bool
     ensures sound { T result → CleanIn own.now k }
     ensures exact { k < 8 → CleanIn own.now k → T result }
 {
@@ -58,8 +57,7 @@ fn at_piece(job: Job, k: u32) -> bool
     k < job.size && job.size <= 8 && job.need <= 9 * k
 }
 
-fn check_ok(job: Job, s: Check, own: &[u64]) -> bool
-    requires { length own.now ≡ 4096 }
+fn check_ok(job: Job, s: Check, own: &OwnWords) -> bool
     ensures sound { T result → CheckOk job s own.now }
     ensures exact { CheckOk job s own.now → T result }
 {
@@ -105,16 +103,14 @@ fn scan_ok(s: Scan) -> bool
 }
 
 // Is piece k in hand, and clean?
-fn building(job: Job, k: u32, own: &[u64]) -> bool
-    requires { length own.now ≡ 4096 }
+fn building(job: Job, k: u32, own: &OwnWords) -> bool
     ensures sound { T result → Building job k own.now }
     ensures exact { Building job k own.now → T result }
 {
     k < job.size && job.size <= 8 && clean_in(own, k)
 }
 
-fn build_ok(job: Job, s: Build, own: &[u64]) -> bool
-    requires { length own.now ≡ 4096 }
+fn build_ok(job: Job, s: Build, own: &OwnWords) -> bool
     ensures sound { T result → BuildOk job s own.now }
     ensures exact { BuildOk job s own.now → T result }
 {
@@ -172,8 +168,7 @@ fn finish_ok(job: Job, s: Finish) -> bool
     }
 }
 
-fn update_ok(job: Job, phase: Phase, own: &[u64]) -> bool
-    requires { length own.now ≡ 4096 }
+fn update_ok(job: Job, phase: Phase, own: &OwnWords) -> bool
     ensures sound { T result → UpdateOk job phase own.now }
     ensures exact { UpdateOk job phase own.now → T result }
 {
@@ -189,8 +184,7 @@ fn update_ok(job: Job, phase: Phase, own: &[u64]) -> bool
     }
 }
 
-pub fn work_ok(work: Work, own: &[u64]) -> bool
-    requires { length own.now ≡ 4096 }
+pub fn work_ok(work: Work, own: &OwnWords) -> bool
     ensures sound { T result → WorkOk work own.now }
     ensures exact { WorkOk work own.now → T result }
 {

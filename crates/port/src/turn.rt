@@ -6,13 +6,12 @@ ghost use Rattle.port.specs.Turns.{AsksNext, AfterReply};
 use crate::asking::asks;
 use crate::ok::work_ok;
 use crate::reply::{BLOCKS, OneReply, reply_fits};
+use own::OwnWords;
 use routes::act::Act;
 use routes::work::Work;
 use routes::{Answer, Cpu};
 
 const MOST_CPUS: u32 = 16;
-
-const OWN_WORDS: usize = 4096;
 
 const BLOCK_WORDS: u32 = 48;
 
@@ -49,9 +48,7 @@ fn ask(work: Work, p: u32, cpus: u32, own: &[u64]) -> Result<Act, NotReady>
     if p >= cpus || cpus > MOST_CPUS {
         return Err(NotReady::Number);
     }
-    if own.len() != OWN_WORDS {
-        return Err(NotReady::Words);
-    }
+    let own: &OwnWords = own.as_array().ok_or(NotReady::Words)?;
     if !work_ok(work, own) {
         return Err(NotReady::Registers);
     }

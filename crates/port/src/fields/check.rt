@@ -37,7 +37,7 @@ impl From<Check> for Fields {
             },
             Check::Reject { why } => Fields {
                 state: 4,
-                index: why.number() as u32,
+                index: u32::from(u8::from(why)),
                 ..NO_FIELDS
             },
         }
@@ -48,12 +48,7 @@ impl From<Check> for Fields {
 fn refusal_of(number: u32) -> Result<Refusal, UnknownState>
     ensures { result_ok result ≡ refusal_of number }
 {
-    match number {
-        1 => Ok(Refusal::PieceCount),
-        2 => Ok(Refusal::UncleanPrefix),
-        3 => Ok(Refusal::AbsentRoute),
-        _ => Err(UnknownState),
-    }
+    Ok(Refusal::try_from(u8::try_from(number)?)?)
 }
 
 impl TryFrom<Fields> for Check {

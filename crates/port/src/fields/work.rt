@@ -4,7 +4,7 @@ ghost use Rattle.std.specs.Result.{result_ok};
 ghost use Rattle.routes.specs.declared.work.Work.TheVariants.{Update};
 ghost use Rattle.port.specs.Fields.{phase_of, work_of};
 
-use super::{Fields, NO_FIELDS, NO_JOB, Registers, UnknownState};
+use super::{Fields, NO_FIELDS, Registers, UnknownState};
 use routes::lookup::Lookup;
 use routes::update::Phase;
 use routes::update::build::Build;
@@ -45,12 +45,12 @@ impl From<Work> for Registers {
         match work {
             Work::Idle => Registers {
                 phase: 0,
-                job: NO_JOB,
+                job: Job::default(),
                 fields: NO_FIELDS,
             },
             Work::Lookup(lookup) => Registers {
                 phase: 1,
-                job: NO_JOB,
+                job: Job::default(),
                 fields: lookup.into(),
             },
             Work::Update(job, phase) => update_registers(job, phase),

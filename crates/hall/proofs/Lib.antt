@@ -1,3 +1,2 @@
 pub mod Busy
 pub mod Pieces
-pub mod Reading

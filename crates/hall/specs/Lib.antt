@@ -1,4 +1,3 @@
-pub mod Commands
 pub mod Games
 pub mod Players
 pub mod Stops

@@ -1,6 +1,6 @@
 -- What processors have under way, and what a turn tells.
 -- Assumes nothing.
-use Rattle.std.specs.Prelude.{◌≡◌, ℕ, zero, suc, ◌+◌, ◌%◌, ◌<◌, Bool, true, false, cond, List, is_some, Some, None, Ok, Err, Option, Result, slice_index_or, slice_set}
+use Rattle.std.specs.Prelude.{◌≡◌, ℕ, ◌%◌, ◌<◌, Bool, true, false, List, take, count_by, is_some, Some, None, Ok, Err, Option, Result, slice_index_or, slice_set}
 use Rattle.routes.specs.Asked.{pieces_of}
 use Rattle.routes.specs.Refusals.{number_of}
 use Rattle.routes.specs.Routes.{Table, Wrong, find, changed}
@@ -14,6 +14,7 @@ use Rattle.plain.specs.Tables.{table_routes}
 use Rattle.plain.specs.declared.change_error.ChangeError.{ChangeError}
 use Rattle.plain.specs.declared.change_error.ChangeError.TheVariants.{Refused, NoRoom}
 use Rattle.plain.specs.declared.table.PlainTable.{PlainTable}
+use Rattle.script.specs.declared.processor.Processor.{Processor}
 use Rattle.script.specs.declared.request.Request.{Request}
 use Rattle.hall.specs.declared.player.Player.{Player}
 
@@ -58,8 +59,7 @@ Turned (Some j) p before (Some a) after = JobTold j p before a after
 
 -- how many of the first n processors have something under way
 abbrev pub busy_below : List (Option Request) → ℕ → ℕ
-busy_below js zero = 0
-busy_below js (suc n) = busy_below js n + cond (is_some (slice_index_or js n None)) 1 0
+busy_below js n = count_by is_some (take n js)
 
 -- the processor that has something under way and before which k have
 pub record IsNth (js : List (Option Request)) (k : ℕ) (p : ℕ) : Type 0 where
@@ -68,6 +68,6 @@ pub record IsNth (js : List (Option Request)) (k : ℕ) (p : ℕ) : Type 0 where
   pub before : busy_below js p ≡ k
 
 -- Of m processors that have something under way, the one that a number chooses by its rest by m; none where m is 0.
-abbrev pub Chosen : List (Option Request) → ℕ → Option ℕ → Type 0
+abbrev pub Chosen : List (Option Request) → ℕ → Option (Processor 4) → Type 0
 Chosen js x None = busy_below js 4 ≡ 0
-Chosen js x (Some p) = IsNth js (x % busy_below js 4) p
+Chosen js x (Some p) = IsNth js (x % busy_below js 4) p.number

@@ -1,6 +1,7 @@
 // Numbers that a seed chooses.
 ghost use Rattle.std.specs.Prelude.{◌≡◌, ◌+◌, ◌*◌, ◌/◌, ◌%◌, ◌^◌};
 
+// No Iterator, whose next hands out an Option: these numbers never end.
 #[derive(Clone, Copy)]
 pub struct Draws {
     x: u64,

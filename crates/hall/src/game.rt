@@ -1,6 +1,5 @@
 // A script that is being played.
 ghost use Rattle.std.specs.Prelude.{◌≡◌, ◌<◌, Err};
-ghost use Rattle.hall.specs.Commands.{Within};
 ghost use Rattle.hall.specs.Games.{next_line, TurnSpent};
 ghost use Rattle.hall.specs.declared.stop.Stop.TheVariants.{LongLine, OutOfTurns};
 
@@ -8,7 +7,7 @@ use super::draws::Draws;
 use super::player::{CPUS, Player};
 use super::stop::Stop;
 use super::told::Told;
-use script::{Command, Request, read_line};
+use script::{Command, Processor, Request, read_line};
 
 // How many turns a script may take.
 pub const TURN_LIMIT: u32 = 4_000_000;
@@ -54,14 +53,13 @@ impl Game {
         ensures line { self.new.line ≡ next_line self.old }
     {
         self.next_line();
-        match read_line(text, CPUS)? {
+        match read_line(text)? {
             Some(command) => self.play(rt, command),
             None => Ok(()),
         }
     }
 
-    fn play<R: Print>(&mut self, rt: &R, command: Command) -> Result<(), Stop>
-        requires { Within 4 command }
+    fn play<R: Print>(&mut self, rt: &R, command: Command<CPUS>) -> Result<(), Stop>
         ensures line { self.new.line ≡ self.old.line }
     {
         match command {
@@ -74,8 +72,12 @@ impl Game {
         }
     }
 
-    fn begin<R: Print>(&mut self, rt: &R, cpu: u8, request: Request) -> Result<(), Stop>
-        requires { cpu < 4 }
+    fn begin<R: Print>(
+        &mut self,
+        rt: &R,
+        cpu: Processor<CPUS>,
+        request: Request,
+    ) -> Result<(), Stop>
         ensures line { self.new.line ≡ self.old.line }
     {
         if self.player.begin(cpu, request) {
@@ -85,10 +87,9 @@ impl Game {
     }
 
     // A turn of a processor, if one is left.
-    fn turn<R: Print>(&mut self, rt: &R, cpu: u8) -> Result<(), Stop>
-        requires { cpu < 4 }
+    fn turn<R: Print>(&mut self, rt: &R, cpu: Processor<CPUS>) -> Result<(), Stop>
         ensures over { self.old.left ≡ 0 → (result ≡ Err OutOfTurns) × (self.new ≡ self.old) }
-        ensures spent { 0 < self.old.left → TurnSpent cpu self.old self.new }
+        ensures spent { 0 < self.old.left → TurnSpent cpu.number self.old self.new }
         ensures line { self.new.line ≡ self.old.line }
     {
         if self.left == 0 {
@@ -102,8 +103,7 @@ impl Game {
     }
 
     // Up to so many turns of a processor, while it has something under way.
-    fn go<R: Print>(&mut self, rt: &R, cpu: u8, turns: u32) -> Result<(), Stop>
-        requires { cpu < 4 }
+    fn go<R: Print>(&mut self, rt: &R, cpu: Processor<CPUS>, turns: u32) -> Result<(), Stop>
         ensures line { self.new.line ≡ self.old.line }
     {
         for _ in 0..turns {

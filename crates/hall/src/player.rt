@@ -5,7 +5,7 @@ ghost use Rattle.hall.specs.Players.{job_of, Begun, AskTold, outcome_of, Turned,
 
 use plain::{ChangeError, PlainTable};
 use routes::{Answer, Ask, Piece, Refusal};
-use script::Request;
+use script::{Processor, Request};
 
 pub const CPUS: u8 = 4;
 // A plain table holds the header block alone.
@@ -15,7 +15,7 @@ const HEADER_BLOCKS: u32 = 1;
 pub struct Player {
     table: PlainTable,
     // what each was asked
-    jobs: [Option<Request>; 4],
+    jobs: [Option<Request>; CPUS as usize],
 }
 
 impl Player {
@@ -26,71 +26,64 @@ impl Player {
     {
         Player {
             table: PlainTable::new(),
-            jobs: [None; 4],
+            jobs: [None; CPUS as usize],
         }
     }
 
     // Has a processor something under way?
-    pub fn is_busy(&self, cpu: u8) -> bool
-        requires { cpu < 4 }
-        ensures { result ≡ is_some (job_of self.now cpu) }
+    pub fn is_busy(&self, cpu: Processor<CPUS>) -> bool
+        ensures { result ≡ is_some (job_of self.now cpu.number) }
     {
-        self.jobs[cpu as usize].is_some()
+        self.jobs[cpu.number as usize].is_some()
     }
 
     // Something begins on a processor, unless it has something under way.
-    pub fn begin(&mut self, cpu: u8, request: Request) -> bool
-        requires { cpu < 4 }
-        ensures { Begun (job_of self.old cpu) cpu request self.old result self.new }
+    pub fn begin(&mut self, cpu: Processor<CPUS>, request: Request) -> bool
+        ensures { Begun (job_of self.old cpu.number) cpu.number request self.old result self.new }
     {
         if self.is_busy(cpu) {
             return false;
         }
-        self.jobs[cpu as usize] = Some(request);
+        self.jobs[cpu.number as usize] = Some(request);
         true
     }
 
     // A turn of a processor, and what it tells.
-    pub fn turn(&mut self, cpu: u8) -> Option<Answer>
-        requires { cpu < 4 }
-        ensures { Turned (job_of self.old cpu) cpu self.old result self.new }
+    pub fn turn(&mut self, cpu: Processor<CPUS>) -> Option<Answer>
+        ensures { Turned (job_of self.old cpu.number) cpu.number self.old result self.new }
     {
-        let request = self.jobs[cpu as usize].take()?;
+        let request = self.jobs[cpu.number as usize].take()?;
         Some(answer(&mut self.table, request))
     }
 
     // The processor whose turn it is by a number, of those that have something under way.
-    pub fn choose(&self, number: u64) -> Option<u8>
+    pub fn choose(&self, number: u64) -> Option<Processor<CPUS>>
         ensures { Chosen self.now.jobs number result }
     {
-        self.nth_busy(number.checked_rem(self.busy_count())?)
+        let nth = number.checked_rem(self.busy_count() as u64)?;
+        self.nth_busy(nth as usize)
     }
 
     // How many processors have something under way.
-    fn busy_count(&self) -> u64
+    fn busy_count(&self) -> usize
         ensures { result ≡ busy_below self.now.jobs 4 }
     {
-        let mut count = 0;
-        for cpu in 0..CPUS {
-            count += u64::from(self.is_busy(cpu));
-        }
-        count
+        self.jobs.iter().filter(|job| job.is_some()).count()
     }
 
     // The processor that has something under way and before which n have.
-    fn nth_busy(&self, n: u64) -> Option<u8>
+    fn nth_busy(&self, n: usize) -> Option<Processor<CPUS>>
         requires { n < busy_below self.now.jobs 4 }
-        ensures { MatchOption result ⊥ (λ p. IsNth self.now.jobs n p) }
+        ensures { MatchOption result ⊥ (λ p. IsNth self.now.jobs n p.number) }
     {
-        let mut before = 0;
-        for cpu in 0..CPUS {
-            let busy = self.is_busy(cpu);
-            if busy && before == n {
-                return Some(cpu);
-            }
-            before += u64::from(busy);
-        }
-        None
+        let (number, _) = self
+            .jobs
+            .iter()
+            .enumerate()
+            .filter(|(_, job)| job.is_some())
+            .nth(n)?;
+        let number = number as u8;
+        Some(Processor { number })
     }
 
     // How many blocks are held.

@@ -2,17 +2,19 @@
 ghost use Rattle.std.specs.Prelude.{Some};
 ghost use Rattle.hall.specs.Told.{told_text};
 
+use super::player::CPUS;
 use routes::Answer;
+use script::Processor;
 use std::fmt;
 
 #[derive(Clone, Copy)]
 pub struct Told {
-    pub cpu: u8,
+    pub cpu: Processor<CPUS>,
     pub answer: Answer,
 }
 
 impl fmt::Display for Told {
-    ghost output = { λ t. Some (told_text t.cpu t.answer) };
+    ghost output = { λ t. Some (told_text t.cpu.number t.answer) };
 
     fn fmt<W: fmt::Write>(&self, f: &mut fmt::Formatter<W>) -> fmt::Result {
         let cpu = self.cpu;

@@ -1,3 +1,4 @@
 pub mod Values
+pub mod Numbered
 pub mod Gathering
 pub mod Back

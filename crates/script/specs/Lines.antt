@@ -9,6 +9,7 @@ use Rattle.script.specs.declared.expected.Expected.{Expected}
 use Rattle.script.specs.declared.expected.Expected.TheVariants as expected
 use Rattle.script.specs.declared.keyword.Keyword.{Keyword}
 use Rattle.script.specs.declared.keyword.Keyword.TheVariants.{Find, Put, Take, Go, On, Any, Arrive}
+use Rattle.script.specs.declared.processor.Processor.{Processor}
 use Rattle.script.specs.Bytes.{all_digits}
 use Rattle.script.specs.Keywords.{keyword_of}
 use Rattle.script.specs.Numbers.{address_of}
@@ -27,30 +28,30 @@ pub record FirstAt (x : ℕ) (t : List ℕ) (n : ℕ) : Type 0 where
   pub before : (k : ℕ) → k < n → slice_index t k ≢ x
 
 -- up to so many turns of a processor
-abbrev pub go_of : ℕ → List ℕ → Result Command Expected
+abbrev pub go_of : (cpus : ℕ) → List ℕ → Result (Command cpus) Expected
 go_of cpus t = processor_of cpus (word t) >>= λ p. count_of (word (past t)) >>= λ n. end_of expected.End (past (past t)) >>= λ _. Ok (command.Go p n)
 
 -- turns of a processor until it is told
-abbrev pub on_of : ℕ → List ℕ → Result Command Expected
+abbrev pub on_of : (cpus : ℕ) → List ℕ → Result (Command cpus) Expected
 on_of cpus t = processor_of cpus (word t) >>= λ p. end_of expected.End (past t) >>= λ _. Ok (command.On p)
 
 -- turns that a number chooses
-abbrev pub any_of : List ℕ → Result Command Expected
-any_of t = seed_of (word t) >>= λ s. count_of (word (past t)) >>= λ n. end_of expected.End (past (past t)) >>= λ _. Ok (command.Any s n)
+abbrev pub any_of : (cpus : ℕ) → List ℕ → Result (Command cpus) Expected
+any_of cpus t = seed_of (word t) >>= λ s. count_of (word (past t)) >>= λ n. end_of expected.End (past (past t)) >>= λ _. Ok (command.Any s n)
 
 -- stores of a processor arrive
-abbrev pub arrive_of : ℕ → List ℕ → Result Command Expected
+abbrev pub arrive_of : (cpus : ℕ) → List ℕ → Result (Command cpus) Expected
 arrive_of cpus t = processor_of cpus (word t) >>= λ p. count_of (word (past t)) >>= λ n. end_of expected.End (past (past t)) >>= λ _. Ok (command.Arrive p n)
 
 -- a question begins
-abbrev pub find_of : ℕ → List ℕ → Result Command Expected
+abbrev pub find_of : {cpus : ℕ} → Processor cpus → List ℕ → Result (Command cpus) Expected
 find_of cpu t = ok_or (address_of (word t)) expected.Address >>= λ a. end_of expected.End (past t) >>= λ _. Ok (command.Begin cpu (record { ask = ask.Find a; pieces = replicate 8 blank_piece }))
 
 -- a change begins
-abbrev pub changes_of : ℕ → List ℕ → Result Command Expected
+abbrev pub changes_of : {cpus : ℕ} → Processor cpus → List ℕ → Result (Command cpus) Expected
 changes_of cpu t = change_of t >>= λ c. Ok (command.Begin cpu (record { ask = ask.Change c.count; pieces = c.pieces }))
 
-abbrev pub ask_by : Option Keyword → ℕ → List ℕ → Result Command Expected
+abbrev pub ask_by : {cpus : ℕ} → Option Keyword → Processor cpus → List ℕ → Result (Command cpus) Expected
 ask_by (Some Find) cpu t = find_of cpu (past t)
 ask_by (Some Put) cpu t = changes_of cpu t
 ask_by (Some Take) cpu t = changes_of cpu t
@@ -61,17 +62,17 @@ ask_by (Some Arrive) cpu t = Err expected.Ask
 ask_by None cpu t = Err expected.Ask
 
 -- a question or a change begins, after its processor's number
-abbrev pub ask_of : ℕ → List ℕ → Result Command Expected
+abbrev pub ask_of : {cpus : ℕ} → Processor cpus → List ℕ → Result (Command cpus) Expected
 ask_of cpu t = ask_by (keyword_of (word t)) cpu t
 
 -- w is a processor's number
-abbrev pub begin_of : ℕ → List ℕ → List ℕ → Result Command Expected
+abbrev pub begin_of : (cpus : ℕ) → List ℕ → List ℕ → Result (Command cpus) Expected
 begin_of cpus w t = cond (all_digits 10 w) (processor_of cpus w >>= λ p. ask_of p t) (Err expected.Command)
 
-abbrev pub command_by : Option Keyword → ℕ → List ℕ → List ℕ → Result Command Expected
+abbrev pub command_by : Option Keyword → (cpus : ℕ) → List ℕ → List ℕ → Result (Command cpus) Expected
 command_by (Some Go) cpus w t = go_of cpus t
 command_by (Some On) cpus w t = on_of cpus t
-command_by (Some Any) cpus w t = any_of t
+command_by (Some Any) cpus w t = any_of cpus t
 command_by (Some Arrive) cpus w t = arrive_of cpus t
 command_by (Some Find) cpus w t = Err expected.Command
 command_by (Some Put) cpus w t = Err expected.Command
@@ -79,7 +80,7 @@ command_by (Some Take) cpus w t = Err expected.Command
 command_by None cpus w t = begin_of cpus w t
 
 -- w is the first word, and t what follows it
-abbrev pub command_of : ℕ → List ℕ → List ℕ → Result Command Expected
+abbrev pub command_of : (cpus : ℕ) → List ℕ → List ℕ → Result (Command cpus) Expected
 command_of cpus w t = command_by (keyword_of w) cpus w t
 
 -- a line that is passed over: no word, or a first one that begins with #
@@ -90,9 +91,9 @@ passed w = length w == 0 || slice_index w 0 == 35
 abbrev pub chomped : List ℕ → List ℕ
 chomped t = cond (slice_index t (length t - 1) == 13) (take (length t - 1) t) t
 
-abbrev pub line_from : ℕ → List ℕ → Result (Option Command) Expected
+abbrev pub line_from : (cpus : ℕ) → List ℕ → Result (Option (Command cpus)) Expected
 line_from cpus t = cond (passed (word t)) (Ok None) (command_of cpus (word t) (past t) >>= λ c. Ok (Some c))
 
 -- the command of a line, if it has one
-abbrev pub line_of : ℕ → List ℕ → Result (Option Command) Expected
+abbrev pub line_of : (cpus : ℕ) → List ℕ → Result (Option (Command cpus)) Expected
 line_of cpus t = line_from cpus (chomped t)

@@ -1,9 +1,12 @@
 -- Reading one thing after another, and the single words that commands are made of.
 -- Assumes nothing.
-use Rattle.std.specs.Prelude.{ℕ, ◌^◌, cond, ◌&&◌, List, length, take, drop, Some, None, Ok, Err, Option, Result, ◌==◌, nat_lt, slice_index}
+use Rattle.std.specs.Prelude.{◌≡◌, ℕ, ◌^◌, Bool, true, false, cond, ◌&&◌, List, length, take, drop, Some, None, Ok, Err, Option, Result, ◌==◌, nat_lt, slice_index, refl}
+use Rattle.std.proofs.lemmas.Bool.{ltb-true}
+use Rattle.std.specs.Option.{ok_or}
 use Rattle.std.specs.Str.Parse.{digits_value}
 use Rattle.script.specs.declared.expected.Expected.{Expected}
 use Rattle.script.specs.declared.expected.Expected.TheVariants as expected
+use Rattle.script.specs.declared.processor.Processor.{Processor}
 use Rattle.script.specs.declared.reading.Prefix.{Prefix}
 use Rattle.script.specs.Bytes.{all_digits}
 use Rattle.script.specs.Numbers.{address_of, length_of}
@@ -19,9 +22,17 @@ abbrev pub ◌>>=◌ : {A B : Type 0} → Result A Expected → (A → Result B 
 abbrev pub below : ℕ → Expected → List ℕ → Result ℕ Expected
 below bound e w = cond (all_digits 10 w && nat_lt (digits_value 10 w) bound) (Ok (digits_value 10 w)) (Err e)
 
+abbrev pub numbered_by : (cpus n : ℕ) (b : Bool) → nat_lt n cpus ≡ b → Option (Processor cpus)
+numbered_by cpus n true e = Some (record { number = n; there = ltb-true n cpus e })
+numbered_by cpus n false e = None
+
+-- the processor of that number, if there are more
+abbrev pub numbered : (cpus : ℕ) → ℕ → Option (Processor cpus)
+numbered cpus n = numbered_by cpus n (nat_lt n cpus) refl
+
 -- a processor, of so many
-abbrev pub processor_of : ℕ → List ℕ → Result ℕ Expected
-processor_of cpus w = below cpus (expected.Processor cpus) w
+unfoldable pub processor_of : (cpus : ℕ) → List ℕ → Result (Processor cpus) Expected
+processor_of cpus w = cond (all_digits 10 w) (ok_or (numbered cpus (digits_value 10 w)) (expected.Processor cpus)) (Err (expected.Processor cpus))
 
 -- what is told, or how many turns or stores
 abbrev pub count_of : List ℕ → Result ℕ Expected

@@ -44,12 +44,12 @@ abbrev pub shown_ask : ℕ → Ask → List Piece → List ℕ
 shown_ask cpu (Find a) ps = sentence (decimal cpu ∷ codes "find" ∷ hexadecimal 8 a ∷ [])
 shown_ask cpu (Change n) ps = decimal cpu ++ shown_pieces (take n ps)
 
-abbrev pub shown : Command → List ℕ
-shown (Begin cpu r) = shown_ask cpu r.ask r.pieces
-shown (Go cpu turns) = sentence (codes "go" ∷ decimal cpu ∷ decimal turns ∷ [])
-shown (On cpu) = sentence (codes "on" ∷ decimal cpu ∷ [])
+abbrev pub shown : {cpus : ℕ} → Command cpus → List ℕ
+shown (Begin cpu r) = shown_ask cpu.number r.ask r.pieces
+shown (Go cpu turns) = sentence (codes "go" ∷ decimal cpu.number ∷ decimal turns ∷ [])
+shown (On cpu) = sentence (codes "on" ∷ decimal cpu.number ∷ [])
 shown (Any seed turns) = sentence (codes "any" ∷ decimal seed ∷ decimal turns ∷ [])
-shown (Arrive cpu stores) = sentence (codes "arrive" ∷ decimal cpu ∷ decimal stores ∷ [])
+shown (Arrive cpu stores) = sentence (codes "arrive" ∷ decimal cpu.number ∷ decimal stores ∷ [])
 
 -- a piece as the code can hold it, of which nothing is told if it takes a route out
 pub record FitsPiece (p : Piece) : Type 0 where
@@ -70,14 +70,14 @@ abbrev pub FitsAsk : Ask → List Piece → Type 0
 FitsAsk (Find a) ps = (a < 2 ^ 32) × (ps ≡ replicate 8 blank_piece)
 FitsAsk (Change n) ps = FitsChange n ps
 
--- a command that a script for so many processors can give
-abbrev pub Fits : ℕ → Command → Type 0
-Fits cpus (Begin cpu r) = (cpu < cpus) × FitsAsk r.ask r.pieces
-Fits cpus (Go cpu turns) = (cpu < cpus) × (turns < 2 ^ 32)
-Fits cpus (On cpu) = cpu < cpus
-Fits cpus (Any seed turns) = (seed < 2 ^ 64) × (turns < 2 ^ 32)
-Fits cpus (Arrive cpu stores) = (cpu < cpus) × (stores < 2 ^ 32)
+-- a command that a script can give: its processor is one of those that there are
+abbrev pub Fits : {cpus : ℕ} → Command cpus → Type 0
+Fits (Begin cpu r) = FitsAsk r.ask r.pieces
+Fits (Go cpu turns) = turns < 2 ^ 32
+Fits (On cpu) = Unit {0}
+Fits (Any seed turns) = (seed < 2 ^ 64) × (turns < 2 ^ 32)
+Fits (Arrive cpu stores) = stores < 2 ^ 32
 
 -- Reading what a command is shown as gives the command.
 abbrev pub ReadsBack : Type 0
-ReadsBack = (cpus : ℕ) → cpus < 256 → (c : Command) → Fits cpus c → line_of cpus (shown c) ≡ Ok (Some c)
+ReadsBack = (cpus : ℕ) → cpus < 256 → (c : Command cpus) → Fits c → line_of cpus (shown c) ≡ Ok (Some c)

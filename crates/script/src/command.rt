@@ -8,43 +8,58 @@ use crate::keyword::{Keyword, keyword_of};
 use crate::line_words::Words;
 use crate::numbers::address;
 use crate::pieces::{BLANK, read_change};
+use crate::processor::Processor;
 use crate::reading::{read_count, read_processor, read_seed};
 use crate::request::Request;
 use routes::Ask;
 
 #[derive(Clone, Copy)]
-pub enum Command {
+pub enum Command<const CPUS: u8> {
     // A question or a change begins.
-    Begin { cpu: u8, request: Request },
+    Begin {
+        cpu: Processor<CPUS>,
+        request: Request,
+    },
     // Up to so many turns of a processor.
-    Go { cpu: u8, turns: u32 },
+    Go {
+        cpu: Processor<CPUS>,
+        turns: u32,
+    },
     // Turns of a processor until it is told.
-    On { cpu: u8 },
+    On {
+        cpu: Processor<CPUS>,
+    },
     // So many turns, which the seed chooses.
-    Any { seed: u64, turns: u32 },
+    Any {
+        seed: u64,
+        turns: u32,
+    },
     // So many stores of a processor arrive.
-    Arrive { cpu: u8, stores: u32 },
+    Arrive {
+        cpu: Processor<CPUS>,
+        stores: u32,
+    },
 }
 
-fn go(mut words: Words, cpus: u8) -> Result<Command, Expected>
-    ensures { result ≡ go_of cpus words.entry.rest.now }
+fn go<const CPUS: u8>(mut words: Words) -> Result<Command<CPUS>, Expected>
+    ensures { result ≡ go_of CPUS words.entry.rest.now }
 {
-    let cpu = read_processor(words.next(), cpus)?;
+    let cpu = read_processor(words.next())?;
     let turns = read_count(words.next())?;
     words.end(Expected::End)?;
     Ok(Command::Go { cpu, turns })
 }
 
-fn on(mut words: Words, cpus: u8) -> Result<Command, Expected>
-    ensures { result ≡ on_of cpus words.entry.rest.now }
+fn on<const CPUS: u8>(mut words: Words) -> Result<Command<CPUS>, Expected>
+    ensures { result ≡ on_of CPUS words.entry.rest.now }
 {
-    let cpu = read_processor(words.next(), cpus)?;
+    let cpu = read_processor(words.next())?;
     words.end(Expected::End)?;
     Ok(Command::On { cpu })
 }
 
-fn any(mut words: Words) -> Result<Command, Expected>
-    ensures { result ≡ any_of words.entry.rest.now }
+fn any<const CPUS: u8>(mut words: Words) -> Result<Command<CPUS>, Expected>
+    ensures { result ≡ any_of CPUS words.entry.rest.now }
 {
     let seed = read_seed(words.next())?;
     let turns = read_count(words.next())?;
@@ -52,17 +67,17 @@ fn any(mut words: Words) -> Result<Command, Expected>
     Ok(Command::Any { seed, turns })
 }
 
-fn arrive(mut words: Words, cpus: u8) -> Result<Command, Expected>
-    ensures { result ≡ arrive_of cpus words.entry.rest.now }
+fn arrive<const CPUS: u8>(mut words: Words) -> Result<Command<CPUS>, Expected>
+    ensures { result ≡ arrive_of CPUS words.entry.rest.now }
 {
-    let cpu = read_processor(words.next(), cpus)?;
+    let cpu = read_processor(words.next())?;
     let stores = read_count(words.next())?;
     words.end(Expected::End)?;
     Ok(Command::Arrive { cpu, stores })
 }
 
-fn find(mut words: Words, cpu: u8) -> Result<Command, Expected>
-    ensures { result ≡ find_of cpu words.entry.rest.now }
+fn find<const CPUS: u8>(mut words: Words, cpu: Processor<CPUS>) -> Result<Command<CPUS>, Expected>
+    ensures { result ≡ find_of cpu.entry words.entry.rest.now }
 {
     let sought = address(words.next()).ok_or(Expected::Address)?;
     words.end(Expected::End)?;
@@ -73,8 +88,8 @@ fn find(mut words: Words, cpu: u8) -> Result<Command, Expected>
     Ok(Command::Begin { cpu, request })
 }
 
-fn change(text: &[u8], cpu: u8) -> Result<Command, Expected>
-    ensures { result ≡ changes_of cpu text.now }
+fn change<const CPUS: u8>(text: &[u8], cpu: Processor<CPUS>) -> Result<Command<CPUS>, Expected>
+    ensures { result ≡ changes_of cpu.entry text.now }
 {
     let change = read_change(text)?;
     let pieces = change.pieces;
@@ -86,8 +101,8 @@ fn change(text: &[u8], cpu: u8) -> Result<Command, Expected>
 }
 
 // What begins on a processor.
-fn ask(words: Words, cpu: u8) -> Result<Command, Expected>
-    ensures { result ≡ ask_of cpu words.entry.rest.now }
+fn ask<const CPUS: u8>(words: Words, cpu: Processor<CPUS>) -> Result<Command<CPUS>, Expected>
+    ensures { result ≡ ask_of cpu.entry words.entry.rest.now }
 {
     let mut after = words;
     match keyword_of(after.next()) {
@@ -98,26 +113,26 @@ fn ask(words: Words, cpu: u8) -> Result<Command, Expected>
 }
 
 // The first word is a processor's number.
-fn begin(first: &[u8], words: Words, cpus: u8) -> Result<Command, Expected>
-    ensures { result ≡ begin_of cpus first.now words.entry.rest.now }
+fn begin<const CPUS: u8>(first: &[u8], words: Words) -> Result<Command<CPUS>, Expected>
+    ensures { result ≡ begin_of CPUS first.now words.entry.rest.now }
 {
     if !all_digits(first, 10) {
         return Err(Expected::Command);
     }
-    let cpu = read_processor(first, cpus)?;
+    let cpu = read_processor(first)?;
     ask(words, cpu)
 }
 
 // A command, of which the first word is read.
-pub fn read_command(first: &[u8], words: Words, cpus: u8) -> Result<Command, Expected>
-    ensures { result ≡ command_of cpus first.now words.entry.rest.now }
+pub fn read_command<const CPUS: u8>(first: &[u8], words: Words) -> Result<Command<CPUS>, Expected>
+    ensures { result ≡ command_of CPUS first.now words.entry.rest.now }
 {
     match keyword_of(first) {
-        Some(Keyword::Go) => go(words, cpus),
-        Some(Keyword::On) => on(words, cpus),
+        Some(Keyword::Go) => go(words),
+        Some(Keyword::On) => on(words),
         Some(Keyword::Any) => any(words),
-        Some(Keyword::Arrive) => arrive(words, cpus),
+        Some(Keyword::Arrive) => arrive(words),
         Some(_) => Err(Expected::Command),
-        None => begin(first, words, cpus),
+        None => begin(first, words),
     }
 }

@@ -21,12 +21,12 @@ fn chomp(text: &[u8]) -> &[u8]
 }
 
 // The command of a line, which comes without its newline, where there are so many processors; none of a blank line or a comment.
-pub fn read_line(text: &[u8], cpus: u8) -> Result<Option<Command>, Expected>
-    ensures { result ≡ line_of cpus text.now }
+pub fn read_line<const CPUS: u8>(text: &[u8]) -> Result<Option<Command<CPUS>>, Expected>
+    ensures { result ≡ line_of CPUS text.now }
 {
     let mut words = Words::new(chomp(text));
     match words.next() {
         [] | [b'#', ..] => Ok(None),
-        first => read_command(first, words, cpus).map(Some),
+        first => read_command(first, words).map(Some),
     }
 }

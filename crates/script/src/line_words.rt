@@ -9,6 +9,7 @@ use crate::bytes::{is_blank, is_letter};
 use crate::expected::Expected;
 
 // What is left to read of a line.
+// No Iterator: at the end comes an empty word, of which each reader says what it expected.
 #[derive(Clone, Copy)]
 pub struct Words<'a> {
     rest: &'a [u8],

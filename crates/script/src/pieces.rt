@@ -17,6 +17,7 @@ pub const BLANK: Piece = Piece {
 };
 
 // How many pieces a change has, and the first eight.
+// No ArrayVec: a processor is handed a row of eight, and more than eight are counted.
 #[derive(Clone, Copy)]
 pub struct Change {
     pub count: u32,

@@ -1,24 +1,38 @@
 // The single words that commands are made of.
 ghost use Rattle.std.specs.Prelude.{◌≡◌};
-ghost use Rattle.script.specs.Reading.{processor_of, count_of, seed_of, prefixed, prefix_of};
+ghost use Rattle.script.specs.Reading.{numbered, processor_of, count_of, seed_of, prefixed, prefix_of};
 
 use crate::expected::Expected;
 use crate::numbers::{address, decimal, length};
+use crate::processor::Processor;
 
 // An address of which the first bits count.
+// Not routes::Prefix, whose bits behind its length are 0: a script may write others.
 #[derive(Clone, Copy)]
 pub struct Prefix {
     pub bits: u32,
     pub len: u8,
 }
 
-pub fn read_processor(word: &[u8], cpus: u8) -> Result<u8, Expected>
-    ensures { result ≡ processor_of cpus word.now }
+// The processor of that number, if there is one.
+fn numbered<const CPUS: u8>(number: u64) -> Option<Processor<CPUS>>
+    ensures { result ≡ numbered CPUS number }
 {
-    match decimal(word) {
-        Ok(n) if n < u64::from(cpus) => Ok(n as u8),
-        _ => Err(Expected::Processor(cpus)),
+    if number < u64::from(CPUS) {
+        let number = number as u8;
+        Some(Processor { number })
+    } else {
+        None
     }
+}
+
+pub fn read_processor<const CPUS: u8>(word: &[u8]) -> Result<Processor<CPUS>, Expected>
+    ensures { result ≡ processor_of CPUS word.now }
+{
+    let Ok(number) = decimal(word) else {
+        return Err(Expected::Processor(CPUS));
+    };
+    numbered(number).ok_or(Expected::Processor(CPUS))
 }
 
 // What is told, or how many turns or stores.

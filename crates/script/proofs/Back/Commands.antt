@@ -1,8 +1,9 @@
 -- Commands that are shown are read back.
-use Rattle.std.proofs.Common.{◌≡◌, ℕ, ◌-◌, ◌^◌, ◌<◌, false, List, [], ◌∷◌, ◌++◌, map, length, get_or, take, replicate, Some, Ok, codes, decimal, All, refl, ap, ◌∙◌, arith, lit<}
+use Rattle.std.proofs.Common.{◌≡◌, ℕ, ◌-◌, ◌^◌, ◌<◌, false, List, [], ◌∷◌, ◌++◌, map, length, get_or, take, replicate, Some, Ok, codes, decimal, All, refl, sym, ap, ◌∙◌, arith, lit<}
 use Rattle.std.proofs.lemmas.List.Elements.{All-head, All-tail, All-from_recursion, All-append, All-weaker, All-get_or}
 use Rattle.std.proofs.lemmas.List.{length-take-le}
 use Rattle.std.proofs.lemmas.Bool.{ne_eqb}
+use Rattle.std.proofs.lemmas.Fmt.{decimal_is_IsNumeral}
 use Rattle.std.specs.Option.{ok_or}
 use Rattle.std.specs.List.{prefix_len}
 use Rattle.routes.specs.declared.Ask.{Ask}
@@ -11,12 +12,14 @@ use Rattle.routes.specs.declared.Piece.{Piece}
 use Rattle.script.specs.declared.command.Command.{Command}
 use Rattle.script.specs.declared.command.Command.TheVariants.{Begin, Go, On, Any, Arrive}
 use Rattle.script.specs.declared.expected.Expected.TheVariants as expected
+use Rattle.script.specs.declared.processor.Processor.{Processor}
 use Rattle.script.specs.Bytes.{letter}
 use Rattle.script.specs.Lines.{command_of, ask_of, passed, chomped, line_from, line_of}
 use Rattle.script.specs.Numbers.{address_of}
 use Rattle.script.specs.Pieces.{blank_piece, change_of}
 use Rattle.script.specs.Reading.{processor_of, count_of, seed_of}
 use Rattle.script.specs.Shown.{after, sentence, hexadecimal, shown_piece, shown_pieces, shown_ask, shown, FitsPiece, FitsChange, FitsAsk, Fits, ReadsBack}
+use Rattle.script.proofs.Numbered.{numbered_is}
 use Rattle.script.proofs.Back.Numerals.{decimal_plain, decimal_digits, decimal_below, decimal_other, hexadecimal_plain, address_back}
 use Rattle.script.proofs.Back.Pieces.{pieces_all, pieces_back, piece_stops, asks_change}
 use Rattle.script.proofs.Back.Plain.{Plain, reads, stops, all_after, all_high}
@@ -30,14 +33,14 @@ chomped_same (c ∷ cs) h =
     rw (ne_eqb (get_or (c ∷ cs) (length (c ∷ cs) - 1) 0) 13 (omega arith)) refl
 
 -- A line is its first word and a command after it.
-line_back : (cpus : ℕ) (w t : List ℕ) (c : Command) → Plain w → All (λ b. 13 < b) t → prefix_len letter t ≡ 0 → passed w ≡ false → command_of cpus w t ≡ Ok c → line_of cpus (w ++ t) ≡ Ok (Some c)
+line_back : (cpus : ℕ) (w t : List ℕ) (c : Command cpus) → Plain w → All (λ b. 13 < b) t → prefix_len letter t ≡ 0 → passed w ≡ false → command_of cpus w t ≡ Ok c → line_of cpus (w ++ t) ≡ Ok (Some c)
 line_back cpus w t c p sound ends other h =
     let r = reads w t p ends in
     let high = All-weaker (λ b. 44 < b) (λ b. 13 < b) (λ x l. omega arith) w p.high in
     ap (line_from cpus) (chomped_same (w ++ t) (All-append (λ b. 13 < b) w t high sound)) ∙ rw (r.0, r.1, other, h) refl
 
 -- The same of words with blanks between them.
-sentence_back : (cpus : ℕ) (w : List ℕ) (ws : List (List ℕ)) (c : Command) → Plain w → All Plain ws → passed w ≡ false → command_of cpus w (after 32 ws) ≡ Ok c → line_of cpus (sentence (w ∷ ws)) ≡ Ok (Some c)
+sentence_back : (cpus : ℕ) (w : List ℕ) (ws : List (List ℕ)) (c : Command cpus) → Plain w → All Plain ws → passed w ≡ false → command_of cpus w (after 32 ws) ≡ Ok c → line_of cpus (sentence (w ∷ ws)) ≡ Ok (Some c)
 sentence_back cpus w ws c p ps other h =
     line_back cpus w (after 32 ws) c p (all_after (λ b. 13 < b) 32 ws (lit< tt) (all_high (λ b. 13 < b) (λ x l. omega arith) ws ps)) (stops ws) other h
 
@@ -64,63 +67,70 @@ count_plain : (n : ℕ) → n < 2 ^ 32 → Plain (decimal n)
 count_plain n h = decimal_plain n (omega arith)
 
 module _ (cpus : ℕ) (few : cpus < 256) where
-  -- A processor's number is read back.
-  cpu_back : (p : ℕ) → p < cpus → processor_of cpus (decimal p) ≡ Ok p
-  cpu_back p h = decimal_below p (omega arith) cpus (expected.Processor cpus) h
+  module _ (p : Processor cpus) where
+    small : p.number < 2 ^ 64
+    small = omega (arith, p.there)
 
-  cpu_plain : (p : ℕ) → p < cpus → Plain (decimal p)
-  cpu_plain p h = decimal_plain p (omega arith)
+    -- A processor is read back.
+    cpu_back : processor_of cpus (decimal p.number) ≡ Ok p
+    unfolding processor_of
+    cpu_back =
+        let number = (decimal_is_IsNumeral p.number small).1 in
+        rw (decimal_digits p.number small) (ap (λ o. ok_or o (expected.Processor cpus)) (numbered_is cpus p _ (sym number)))
 
-  -- What begins on a processor is read back, if what follows its number is.
-  begin_back : (p : ℕ) (t : List ℕ) (c : Command) → p < cpus → ask_of p t ≡ Ok c → command_of cpus (decimal p) t ≡ Ok c
-  begin_back p t c h e = rw ((decimal_other p (omega arith)).0, cpu_back p h, decimal_digits p (omega arith)) e
+    cpu_plain : Plain (decimal p.number)
+    cpu_plain = decimal_plain p.number small
 
-  find_back : (p a : ℕ) → p < cpus → a < 2 ^ 32 → line_of cpus (sentence (decimal p ∷ codes "find" ∷ hexadecimal 8 a ∷ [])) ≡ Ok (Some (Begin p (record { ask = Find a; pieces = replicate 8 blank_piece })))
-  find_back p a h b =
-      let plain = hexadecimal_plain 8 a (lit< tt) in
-      let r = reads_after (codes "find") (hexadecimal 8 a ∷ []) find_plain in
-      let told : ok_or (address_of (hexadecimal 8 a)) expected.Address ≡ Ok a = ap (λ o. ok_or o expected.Address) (address_back a b) in
-      let each = All-from_recursion Plain (codes "find" ∷ hexadecimal 8 a ∷ []) (find_plain, (plain, tt)) in
-      sentence_back cpus (decimal p) (codes "find" ∷ hexadecimal 8 a ∷ []) _ (cpu_plain p h) each (decimal_other p (omega arith)).1
-      (begin_back p _ _ h (rw (r.0, r.1) (one_back (λ w. ok_or (address_of w) expected.Address) expected.End (λ x. Begin p (record { ask = Find x; pieces = replicate 8 blank_piece })) (hexadecimal 8 a) a plain told)))
+    -- What begins on it is read back, if what follows its number is.
+    begin_back : (t : List ℕ) (c : Command cpus) → ask_of p t ≡ Ok c → command_of cpus (decimal p.number) t ≡ Ok c
+    begin_back t c e = rw ((decimal_other p.number small).0, cpu_back, decimal_digits p.number small) e
 
-  change_back : (p n : ℕ) (ps : List Piece) → p < cpus → FitsChange n ps → line_of cpus (decimal p ++ shown_pieces (take n ps)) ≡ Ok (Some (Begin p (record { ask = Change n; pieces = ps })))
-  change_back p n ps h f = by (take n ps) (omega (arith, length-take-le n ps (omega (arith, f.row, f.few)), f.some)) f.each (pieces_back n ps f)
-    where
-      by : (qs : List Piece) → 0 < length qs → All FitsPiece qs → change_of (shown_pieces qs) ≡ Ok (record { count = n; pieces = ps }) → line_of cpus (decimal p ++ shown_pieces qs) ≡ Ok (Some (Begin p (record { ask = Change n; pieces = ps })))
-      by [] some g e = absurd (omega arith)
-      by (q ∷ qs) some g e =
-          let all = pieces_all (λ b. 13 < b) (lit< tt) (λ x l. omega arith) (q ∷ qs) g in
-          let others = after 44 (map shown_piece qs) in
-          let first = All-head (All (λ b. 13 < b)) (shown_piece q) (map shown_piece qs) all in
-          let behind = All-tail (All (λ b. 13 < b)) (shown_piece q) (map shown_piece qs) all in
-          let sound = All-append (λ b. 13 < b) (shown_piece q) others first (all_after (λ b. 13 < b) 44 (map shown_piece qs) (lit< tt) behind) in
-          line_back cpus (decimal p) (shown_pieces (q ∷ qs)) _ (cpu_plain p h) sound (piece_stops q others) (decimal_other p (omega arith)).1
-          (begin_back p _ _ h (asks_change p q others ∙ rw e refl))
+    find_back : (a : ℕ) → a < 2 ^ 32 → line_of cpus (sentence (decimal p.number ∷ codes "find" ∷ hexadecimal 8 a ∷ [])) ≡ Ok (Some (Begin p (record { ask = Find a; pieces = replicate 8 blank_piece })))
+    find_back a b =
+        let plain = hexadecimal_plain 8 a (lit< tt) in
+        let r = reads_after (codes "find") (hexadecimal 8 a ∷ []) find_plain in
+        let told : ok_or (address_of (hexadecimal 8 a)) expected.Address ≡ Ok a = ap (λ o. ok_or o expected.Address) (address_back a b) in
+        let each = All-from_recursion Plain (codes "find" ∷ hexadecimal 8 a ∷ []) (find_plain, (plain, tt)) in
+        sentence_back cpus (decimal p.number) (codes "find" ∷ hexadecimal 8 a ∷ []) _ cpu_plain each (decimal_other p.number small).1
+        (begin_back _ _ (rw (r.0, r.1) (one_back (λ w. ok_or (address_of w) expected.Address) expected.End (λ x. Begin p (record { ask = Find x; pieces = replicate 8 blank_piece })) (hexadecimal 8 a) a plain told)))
 
-  -- Whatever is asked of a processor is read back.
-  asked_back : (p : ℕ) (k : Ask) (ps : List Piece) → p < cpus → FitsAsk k ps → line_of cpus (shown_ask p k ps) ≡ Ok (Some (Begin p (record { ask = k; pieces = ps })))
-  asked_back p (Find a) ps h f = rw f.1 (find_back p a h f.0)
-  asked_back p (Change n) ps h f = change_back p n ps h f
+    change_back : (n : ℕ) (ps : List Piece) → FitsChange n ps → line_of cpus (decimal p.number ++ shown_pieces (take n ps)) ≡ Ok (Some (Begin p (record { ask = Change n; pieces = ps })))
+    change_back n ps f = by (take n ps) (omega (arith, length-take-le n ps (omega (arith, f.row, f.few)), f.some)) f.each (pieces_back n ps f)
+      where
+        by : (qs : List Piece) → 0 < length qs → All FitsPiece qs → change_of (shown_pieces qs) ≡ Ok (record { count = n; pieces = ps }) → line_of cpus (decimal p.number ++ shown_pieces qs) ≡ Ok (Some (Begin p (record { ask = Change n; pieces = ps })))
+        by [] some g e = absurd (omega arith)
+        by (q ∷ qs) some g e =
+            let all = pieces_all (λ b. 13 < b) (lit< tt) (λ x l. omega arith) (q ∷ qs) g in
+            let others = after 44 (map shown_piece qs) in
+            let first = All-head (All (λ b. 13 < b)) (shown_piece q) (map shown_piece qs) all in
+            let behind = All-tail (All (λ b. 13 < b)) (shown_piece q) (map shown_piece qs) all in
+            let sound = All-append (λ b. 13 < b) (shown_piece q) others first (all_after (λ b. 13 < b) 44 (map shown_piece qs) (lit< tt) behind) in
+            line_back cpus (decimal p.number) (shown_pieces (q ∷ qs)) _ cpu_plain sound (piece_stops q others) (decimal_other p.number small).1
+            (begin_back _ _ (asks_change p q others ∙ rw e refl))
 
-  pub read_back : (c : Command) → Fits cpus c → line_of cpus (shown c) ≡ Ok (Some c)
-  read_back (Begin p r) f = asked_back p r.ask r.pieces f.0 f.1
+    -- Whatever is asked of it is read back.
+    asked_back : (k : Ask) (ps : List Piece) → FitsAsk k ps → line_of cpus (shown_ask p.number k ps) ≡ Ok (Some (Begin p (record { ask = k; pieces = ps })))
+    asked_back (Find a) ps f = rw f.1 (find_back a f.0)
+    asked_back (Change n) ps f = change_back n ps f
+
+  pub read_back : (c : Command cpus) → Fits c → line_of cpus (shown c) ≡ Ok (Some c)
+  read_back (Begin p r) f = asked_back p r.ask r.pieces f
   read_back (Go p n) f =
-      let each = All-from_recursion Plain (decimal p ∷ decimal n ∷ []) (cpu_plain p f.0, (count_plain n f.1, tt)) in
-      sentence_back cpus (codes "go") (decimal p ∷ decimal n ∷ []) _ go_plain each refl
-      (two_back (processor_of cpus) count_of expected.End Go _ _ p n (cpu_plain p f.0) (count_plain n f.1) (cpu_back p f.0) (count_back n f.1))
+      let each = All-from_recursion Plain (decimal p.number ∷ decimal n ∷ []) (cpu_plain p, (count_plain n f, tt)) in
+      sentence_back cpus (codes "go") (decimal p.number ∷ decimal n ∷ []) _ go_plain each refl
+      (two_back (processor_of cpus) count_of expected.End Go _ _ p n (cpu_plain p) (count_plain n f) (cpu_back p) (count_back n f))
   read_back (On p) f =
-      let each = All-from_recursion Plain (decimal p ∷ []) (cpu_plain p f, tt) in
-      sentence_back cpus (codes "on") (decimal p ∷ []) _ on_plain each refl
-      (one_back (processor_of cpus) expected.End On _ p (cpu_plain p f) (cpu_back p f))
+      let each = All-from_recursion Plain (decimal p.number ∷ []) (cpu_plain p, tt) in
+      sentence_back cpus (codes "on") (decimal p.number ∷ []) _ on_plain each refl
+      (one_back (processor_of cpus) expected.End On _ p (cpu_plain p) (cpu_back p))
   read_back (Any s n) f =
       let each = All-from_recursion Plain (decimal s ∷ decimal n ∷ []) (decimal_plain s f.0, (count_plain n f.1, tt)) in
       sentence_back cpus (codes "any") (decimal s ∷ decimal n ∷ []) _ any_plain each refl
       (two_back seed_of count_of expected.End Any _ _ s n (decimal_plain s f.0) (count_plain n f.1) (decimal_below s f.0 (2 ^ 64) expected.Seed f.0) (count_back n f.1))
   read_back (Arrive p n) f =
-      let each = All-from_recursion Plain (decimal p ∷ decimal n ∷ []) (cpu_plain p f.0, (count_plain n f.1, tt)) in
-      sentence_back cpus (codes "arrive") (decimal p ∷ decimal n ∷ []) _ arrive_plain each refl
-      (two_back (processor_of cpus) count_of expected.End Arrive _ _ p n (cpu_plain p f.0) (count_plain n f.1) (cpu_back p f.0) (count_back n f.1))
+      let each = All-from_recursion Plain (decimal p.number ∷ decimal n ∷ []) (cpu_plain p, (count_plain n f, tt)) in
+      sentence_back cpus (codes "arrive") (decimal p.number ∷ decimal n ∷ []) _ arrive_plain each refl
+      (two_back (processor_of cpus) count_of expected.End Arrive _ _ p n (cpu_plain p) (count_plain n f) (cpu_back p) (count_back n f))
 
 -- The promise.
 pub reads_back_lem : ReadsBack

@@ -7,6 +7,7 @@ use Rattle.std.specs.List.{prefix_len}
 use Rattle.routes.specs.declared.Piece.{Piece}
 use Rattle.script.specs.declared.expected.Expected.TheVariants as expected
 use Rattle.script.specs.declared.pieces.Change.{Change}
+use Rattle.script.specs.declared.processor.Processor.{Processor}
 use Rattle.script.specs.Bytes.{letter}
 use Rattle.script.specs.Lines.{ask_of, changes_of}
 use Rattle.script.specs.Pieces.{parts, piece_of, blank_piece, no_pieces, with_piece, gathered, change_of}
@@ -128,7 +129,7 @@ piece_stops p t = by p.puts
     by false = refl
 
 -- What begins with a piece is a change.
-pub asks_change : (cpu : ℕ) (p : Piece) (t : List ℕ) → ask_of cpu (shown_piece p ++ t) ≡ changes_of cpu (shown_piece p ++ t)
+pub asks_change : {cpus : ℕ} (cpu : Processor cpus) (p : Piece) (t : List ℕ) → ask_of cpu (shown_piece p ++ t) ≡ changes_of cpu (shown_piece p ++ t)
 unfolding after
 asks_change cpu p t = by p.puts
   where

@@ -1,14 +1,8 @@
-use Rattle.std.proofs.Common.{◌≢◌, ◌∷◌, sym, ap, ◌∙◌, arith, get_or-set_other, get_or-set_same, rules, below_more}
+use Rattle.std.proofs.Common.{◌∷◌, sym, ap, ◌∙◌, arith, rules}
 use Rattle.routes.specs.Routes.{Turned, Told}
-use Rattle.routes.specs.Invariant.Known.{idle_cpu, seen_of}
+use Rattle.routes.specs.Invariant.Known.{seen_of}
 use Rattle.routes.proofs.Invariant.Turning.{turning_start, turning_room, turning_begin, turning_ready, turning_step, turning_turned, turning_told, turning_noted, begins_inside, goes_inside, goes_seen}
 use Rattle.routes.proofs.turns.Goals as goal
-
-pub loop-i-preserved : goal.loop-i-preserved
-loop-i-preserved g c =
-    below_more _ _
-    (λ k h. let ne : k ≢ c.loop-i.i = omega arith in ap (λ y. y.work) (get_or-set_other c.loop-i.cpus c.loop-i.i k c.new.result idle_cpu ne) ∙ c.loop-i.invariant k h)
-    (ap (λ y. y.work) (get_or-set_same c.loop-i.cpus c.loop-i.i c.new.result idle_cpu (search rules)) ∙ c.new.ensures)
 
 pub loop-t-init : goal.loop-t-init
 loop-t-init g c = turning_start _ _ _ _ _ c.requires.starts c.requires.unseen (λ q l. c.loop-i.invariant q (omega arith)) (search rules) c.requires.lent.1.0 c.requires.lent.1.1

@@ -1,12 +1,9 @@
-use Rattle.std.proofs.Common.{rules, arith}
-use Rattle.routes.proofs.Machine.Pieces.{noted_none, one_to_come, noted_more}
+use Rattle.std.proofs.Common.{rules}
+use Rattle.routes.proofs.Machine.Pieces.{noted_none, noted_more}
 use Rattle.routes.proofs.work.note_pieces.Goals as goal
 
 pub loop-k-init : goal.loop-k-init
 loop-k-init c = search (rules, noted_none c.args.pieces.now c.args.own.now)
-
-pub write_piece-requires : goal.write_piece-requires
-write_piece-requires c = omega (arith, one_to_come c.loop-k.invariant c.in-Some.ensures.steps.1, c.told-pieces, c.in-Some.ensures.steps.0)
 
 pub loop-k-preserved : goal.loop-k-preserved
 loop-k-preserved c = let n = noted_more _ _ c.loop-k.invariant c.in-Some.ensures.steps.1 c.from.ensures.fits in search (rules, n)

@@ -13,7 +13,8 @@ impl SharedMemory<'_> {
         requires { (p < 16) × ((block < self.now.layout.blocks) × (word < 48)) }
         ensures { result ≡ sees p block word (mem_of self.now) }
     {
-        self.newest(p as usize, block, word)
+        self.late_row(p as usize)
+            .newest(block, word)
             .unwrap_or(self.words[word_at(block, word)])
     }
 

@@ -4,6 +4,7 @@
 mod access;
 mod arrive;
 mod guard;
+mod late_row;
 mod layout;
 mod lent;
 mod look;

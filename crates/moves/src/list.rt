@@ -1,5 +1,5 @@
 // A list of moves, and how far it is played.
-ghost use Rattle.std.specs.Prelude.{◌≡◌, ℕ, ◌+◌, ◌*◌, ◌<◌, ◌≤◌, false, length, Some, None, MatchOption, slice_index_or};
+ghost use Rattle.std.specs.Prelude.{◌≡◌, ℕ, ◌+◌, ◌*◌, ◌<◌, ◌≤◌, false, length, Some, None, slice_index_or};
 ghost use Rattle.world.specs.Notes.{piece_of};
 ghost use Rattle.moves.specs.Moves.{PiecesFit, piece_at, blank};
 ghost use Rattle.moves.specs.Lists.{busy_of, left_of, comes_of, doing_of, begun, TakenUp, Advanced};

@@ -1,9 +1,6 @@
 // Moves in words. The first word of a move is its kind, 16 times its processor and 256 times a number; a change has two words more for each piece, of the first eight.
-ghost use Rattle.std.specs.Prelude.{◌≡◌, ℕ, ◌+◌, ◌*◌, ◌<◌, ◌≤◌, T, length, MatchOption};
-ghost use Rattle.world.specs.Notes.{piece_of};
+ghost use Rattle.std.specs.Prelude.{◌≡◌, ◌+◌, ◌*◌, ◌<◌, ◌≤◌, T, length, MatchOption};
 ghost use Rattle.moves.specs.Moves.{kept_of, body_of, width_of, head_of, PiecesFit, IsMove, AllMoves};
-
-use routes::Piece;
 
 // Kinds are numbers: a caller in Rust or C writes the list.
 const GO: u64 = 0;

@@ -1,5 +1,5 @@
 // What an event says, in words.
-ghost use Rattle.std.specs.Prelude.{◌≡◌, ◌^◌, ◌<◌};
+ghost use Rattle.std.specs.Prelude.{◌≡◌};
 ghost use Rattle.world.specs.Notes.{first_word, second_word, piece_of, told_word, told_of};
 
 use routes::{Answer, Piece};

@@ -1,7 +1,7 @@
 use Rattle.std.proofs.Common.{◌≡◌, arith}
 use Rattle.routes.specs.Memory.{last_late}
 use Rattle.memory.specs.Rings.{row_from}
-use Rattle.memory.proofs.shared.SharedMemory.newest.Goals as goal
+use Rattle.memory.proofs.late_row.LateRow.newest.Goals as goal
 
 pub returns : goal.returns
 unfolding row_from last_late

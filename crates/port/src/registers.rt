@@ -31,6 +31,7 @@ fn narrow(words: &RegisterWords) -> bool
     words.iter().enumerate().all(|(i, x)| *x <= most_at(i))
 }
 
+// The lower half; `as` alone may cut nothing off, so here and for a byte the remainder is taken first.
 fn low(x: u64) -> u32
     ensures { result ≡ x % 4294967296 }
 {

@@ -23,7 +23,7 @@ pub struct PlayedWords {
     pub spare: u32,
 }
 
-// The number of a refusal.
+// The number of a refusal: a function and no From, since `Refused` and `u32` are both of other crates, and C programs alone know the numbers.
 fn refused_number(refused: Refused) -> u32
     ensures { result ≡ refused_number refused }
 {

@@ -5,6 +5,7 @@ ghost use Rattle.export.specs.Structs.{act_words, told_words};
 use routes::Answer;
 use routes::act::Act;
 
+// The kinds are numbers and no enums, since C programs read and test them.
 const PAUSE: u32 = 0;
 
 const LOAD: u32 = 1;

@@ -1,13 +1,9 @@
 -- Registers that were written to words are read from them.
-use Rattle.std.proofs.Common.{◌≡◌, ℕ, ◌%◌, ◌<◌, ◌≤◌, Bool, true, List, [], ◌∷◌, length, Some, refl, subst, arith}
-use Rattle.std.proofs.Math.Bool.{and_comm}
-use Rattle.std.proofs.lemmas.Bool.{leb-true, le-leb}
-use Rattle.std.proofs.lemmas.Bool.Decides.{nat_tests, Decides-below_and, same_from_decides}
-use Rattle.std.specs.Bool.{Decides}
-use Rattle.std.specs.Prelude.{EachIndex, nat_le, slice_index}
+use Rattle.std.proofs.Common.{◌≡◌, ℕ, ◌%◌, ◌<◌, true, List, [], ◌∷◌, Some, arith}
+use Rattle.std.proofs.lemmas.Bool.Decides.{nat_tests}
 use Rattle.routes.specs.declared.update.job.Job.{Job}
 use Rattle.port.specs.declared.fields.Registers.{Registers}
-use Rattle.port.specs.Registers.{most_at, narrow, low, best_in, fields_in, registers_of}
+use Rattle.port.specs.Registers.{narrow, low, best_in, fields_in, registers_of}
 
 -- each number is one that its type holds
 pub record Fit (r : Registers) : Type 0 where
@@ -33,8 +29,7 @@ written r best =
     r.fields.index ∷ r.fields.node ∷ r.fields.next ∷ r.fields.level ∷ r.fields.word ∷ r.fields.first ∷ best ∷ []
 
 -- Then no word is more than it can be.
-all_narrow : (r : Registers) (best : ℕ) → Fit r → best < 281474976710656 → narrow (written r best) 16 ≡ true
-unfolding narrow
+all_narrow : (r : Registers) (best : ℕ) → Fit r → best < 281474976710656 → narrow (written r best) ≡ true
 all_narrow r best f h = grind (arith, nat_tests)
 
 low_is : (x : ℕ) → x < 4294967296 → low x ≡ x
@@ -68,15 +63,3 @@ reads r best f h e =
     let fields = same_fields r best f e in
     let phase = low_is r.phase f.phase in
     rw (all_narrow r best f h) (λ i. Some (record { phase = phase i; job = job i; fields = fields i }))
-
--- `narrow` says whether each of the first words is no more than it can be.
-narrow_decides : (o : List ℕ) (n : ℕ) → Decides (narrow o n) ((i : ℕ) → i < n → slice_index o i ≤ most_at i)
-unfolding narrow
-narrow_decides o =
-    Decides-below_and (λ i. nat_le (slice_index o i) (most_at i)) (λ i. slice_index o i ≤ most_at i) (narrow o)
-    (λ i. (leb-true _ _, le-leb _ _)) refl (λ i. and_comm (narrow o i) (nat_le (slice_index o i) (most_at i)))
-
--- A test that says so of all words is `narrow` of them.
-pub narrow_is : (o : List ℕ) (b : Bool) → length o ≡ 16 → Decides b (EachIndex o (λ i. slice_index o i ≤ most_at i)) → b ≡ narrow o 16
-narrow_is o b n d =
-    same_from_decides b (narrow o 16) (subst (λ k. Decides b ((i : ℕ) → i < k → slice_index o i ≤ most_at i)) n d) (narrow_decides o 16)

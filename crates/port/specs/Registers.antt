@@ -1,6 +1,7 @@
 -- Registers in 16 words.
 -- Assumes nothing.
-use Rattle.std.specs.Prelude.{ℕ, zero, suc, ◌/◌, ◌%◌, Bool, true, cond, ◌&&◌, List, length, Some, None, Option, ◌==◌, nat_le, slice_index, option_map, option_and_then}
+use Rattle.std.specs.Prelude.{ℕ, ◌/◌, ◌%◌, Bool, cond, ◌&&◌, List, length, Some, None, Option, ◌==◌, nat_le, slice_index, option_map, option_and_then}
+use Rattle.std.specs.List.{list_all, enumerate_from}
 use Rattle.routes.specs.declared.Cpu.{Cpu}
 use Rattle.routes.specs.declared.update.job.Job.{Job}
 use Rattle.routes.specs.declared.work.Work.{Work}
@@ -13,10 +14,9 @@ use Rattle.port.specs.Fields.{work_of}
 abbrev pub most_at : ℕ → ℕ
 most_at i = cond (i == 8) 18446744073709551615 (cond (i == 12) 255 (cond (i == 15) 281474976710655 4294967295))
 
--- none of the first words is more than it can be
-unfoldable pub narrow : List ℕ → ℕ → Bool
-narrow o zero = true
-narrow o (suc i) = narrow o i && nat_le (slice_index o i) (most_at i)
+-- no word is more than it can be
+abbrev pub narrow : List ℕ → Bool
+narrow o = list_all (λ p. nat_le p.1 (most_at p.0)) (enumerate_from 0 o)
 
 abbrev pub low : ℕ → ℕ
 low x = x % 4294967296
@@ -45,7 +45,7 @@ abbrev pub registers_in : List ℕ → Registers
 registers_in o = record { phase = low (slice_index o 0); job = job_in o; fields = fields_in o }
 
 abbrev pub registers_of : List ℕ → Option Registers
-registers_of o = cond (length o == 16 && narrow o 16) (Some (registers_in o)) None
+registers_of o = cond (length o == 16 && narrow o) (Some (registers_in o)) None
 
 -- a processor with this under way
 abbrev pub with_work : Work → Cpu

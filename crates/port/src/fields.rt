@@ -1,5 +1,5 @@
 // What a processor has under way as plain numbers: a code for its state and a field for each part. Each phase is converted there and back.
-// The codes are matched as numbers: they stand in words that C programs keep, and no enum of the repository has them in this order.
+// The codes are plain numbers, since they stand in words that C programs keep.
 mod answer;
 mod build;
 mod check;

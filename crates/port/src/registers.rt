@@ -1,7 +1,7 @@
 // Registers as 16 words, to be kept outside and taken up again.
 ghost use Rattle.std.specs.Prelude.{◌≡◌, ◌%◌, ◌<◌, ◌≤◌, ◌↔◌, length, Some as Some', IsTrue, EachIndex, slice_index};
 ghost use Rattle.std.specs.Result.{result_ok};
-ghost use Rattle.port.specs.Registers.{most_at, best_in, job_in, fields_in, registers_in, registers_of, cpu_of};
+ghost use Rattle.port.specs.Registers.{most_at, narrow as narrow_of, best_in, job_in, fields_in, registers_in, registers_of, cpu_of};
 
 use crate::fields::{AnswerWords, Fields, Registers, UnknownState};
 use routes::Cpu;
@@ -26,11 +26,12 @@ fn most_at(i: usize) -> u64
 
 // Is no word more than it can be?
 fn narrow(words: &RegisterWords) -> bool
-    ensures { IsTrue result ↔ EachIndex words.now (λ i. slice_index words.now i ≤ most_at i) }
+    ensures { result ≡ narrow_of words.now }
 {
     words.iter().enumerate().all(|(i, x)| *x <= most_at(i))
 }
 
+// The lower half; `as` alone may cut nothing off, so here and for a byte the remainder is taken first.
 fn low(x: u64) -> u32
     ensures { result ≡ x % 4294967296 }
 {

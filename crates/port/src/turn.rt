@@ -11,6 +11,7 @@ use routes::act::Act;
 use routes::work::Work;
 use routes::{Answer, Cpu};
 
+// The limits of a memory stand here again, since whoever uses this crate has a memory of another kind than crates/memory.
 const MOST_CPUS: u32 = 16;
 
 const BLOCK_WORDS: u32 = 48;

@@ -80,6 +80,7 @@ fn play_argument<R: Env + Files + Print + Eprint>(
 }
 
 // Plays the scripts that the arguments behind the first one name.
+// They are asked for by number: a list of them would be on the heap.
 fn play_others<R: Env + Files + Print + Eprint>(rt: &R, room: &mut [u8]) -> Result<(), Failed> {
     for i in 2..usize::MAX {
         if !play_argument(rt, i, room)? {

@@ -25,11 +25,15 @@ use stop::{Complaint, Stop};
 struct Failed;
 
 // Says on standard error why a script stopped, and fails if that is an error.
-fn complain<R: Eprint>(rt: &R, name: &str, line: u64, stop: Stop) -> Result<(), Failed>
-    ensures { is_err result ≡ is_error stop }
+fn complain<R: Eprint>(rt: &R, complaint: Complaint) -> Result<(), Failed>
+    ensures { is_err result ≡ is_error complaint.entry.stop }
 {
-    let _ = rt.eprintln(Complaint { name, line, stop });
-    if stop.is_error() { Err(Failed) } else { Ok(()) }
+    let _ = rt.eprintln(complaint);
+    if complaint.stop.is_error() {
+        Err(Failed)
+    } else {
+        Ok(())
+    }
 }
 
 // Plays a script from a fresh start.
@@ -41,10 +45,12 @@ fn play<I: Read, R: Print + Eprint>(
 ) -> Result<(), Failed> {
     let mut game = Game::new();
     if let Err(stop) = play_lines(rt, &mut game, input, room) {
-        complain(rt, name, game.line, stop)?;
+        let line = game.line;
+        complain(rt, Complaint { name, line, stop })?;
     }
     if let Err(stop) = game.end(rt) {
-        complain(rt, name, game.line, stop)?;
+        let line = game.line;
+        complain(rt, Complaint { name, line, stop })?;
     }
     Ok(())
 }
@@ -52,7 +58,17 @@ fn play<I: Read, R: Print + Eprint>(
 fn play_file<R: Files + Print + Eprint>(rt: &R, name: &str, room: &mut [u8]) -> Result<(), Failed> {
     match File::open(rt, name) {
         Ok(mut file) => play(rt, name, &mut file, room),
-        Err(error) => complain(rt, name, 0, Stop::Unreadable(error)),
+        Err(error) => {
+            let stop = Stop::Unreadable(error);
+            complain(
+                rt,
+                Complaint {
+                    name,
+                    line: 0,
+                    stop,
+                },
+            )
+        }
     }
 }
 
@@ -80,6 +96,7 @@ fn play_argument<R: Env + Files + Print + Eprint>(
 }
 
 // Plays the scripts that the arguments behind the first one name.
+// They are asked for by number: a list of them would be on the heap.
 fn play_others<R: Env + Files + Print + Eprint>(rt: &R, room: &mut [u8]) -> Result<(), Failed> {
     for i in 2..usize::MAX {
         if !play_argument(rt, i, room)? {

@@ -15,15 +15,16 @@ pub const LINE_ROOM: usize = LINE_LIMIT + 1;
 fn play_whole<R: Print>(rt: &R, game: &mut Game, text: &[u8]) -> Result<usize, Stop>
     ensures { IfOk result (λ n. n ≤ length text.now) }
 {
-    let mut done = 0;
-    while let Some(len) = line_end(&text[done..]) {
-        game.play_line(rt, &text[done..done + len])?;
-        done += len + 1;
+    let mut rest = text;
+    while let Some(len) = line_end(rest) {
+        game.play_line(rt, &rest[..len])?;
+        rest = &rest[len + 1..];
     }
-    Ok(done)
+    Ok(text.len() - rest.len())
 }
 
 // Plays all lines of a script: the last one may lack its newline.
+// What is held of a line stands in front of the room: a BufReader would allocate, and no heap is used.
 pub fn play_lines<I: Read, R: Print>(
     rt: &R,
     game: &mut Game,

@@ -1,7 +1,7 @@
 -- The number that digits write, one digit after the other.
 use Rattle.std.proofs.Common.{◌≡◌, ℕ, ◌+◌, ◌*◌, ◌^◌, ◌<◌, ◌≤◌, true, List, [], ◌∷◌, length, get_or, drop, Some, None, sym, ◌∙◌, inl, inr, mul-le-mul_left, arith}
 use Rattle.std.proofs.lemmas.Int.Digits.{digits_value-lt}
-use Rattle.std.proofs.lemmas.List.{at_drop_more, at_drop_all}
+use Rattle.std.proofs.lemmas.List.{at_drop_more}
 use Rattle.std.proofs.lemmas.Bool.{cases_lt, ltb-true, and_parts}
 use Rattle.std.proofs.lemmas.Bool.Decides.{nat_tests}
 use Rattle.std.specs.Str.Parse.{AllDigits, digits_value, digits_value_after}
@@ -32,30 +32,14 @@ value_after_ge r n (d ∷ ds) h =
     let one = mul-le-mul_left n h in
     omega arith
 
--- n is the number before the digit at i, and d that digit's value
-module _ (r n d : ℕ) (ds : List ℕ) (i : ℕ) (inv : digits_value_after r n (drop i ds) ≡ digits_value r ds) where
-  -- The digit is read.
-  step : i < length ds → d ≡ digit_value (get_or ds i 0) → digits_value_after r (n * r + d) (drop (i + 1) ds) ≡ digits_value r ds
-  step h e = rw e (sym (at_drop_more (digits_value_after r n) ds i 0 h) ∙ inv)
-
-  -- With it the number still has at most 64 bits.
-  pub reads_more : (m : ℕ) → i < length ds → d ≡ digit_value (get_or ds i 0) → Some m ≡ small (n * r + d) → (digits_value_after r m (drop (i + 1) ds) ≡ digits_value r ds) × (m < 2 ^ 64)
-  reads_more m h e s = let is = small_some _ m s in (rw is.0 (step h e), is.1)
-
-  -- With it the number has more, and so it has with all digits.
-  pub reads_none : 0 < r → i < length ds → d ≡ digit_value (get_or ds i 0) → None ≡ small (n * r + d) → None ≡ small (digits_value r ds)
-  reads_none pos h e s =
-      let large = small_none _ s in
-      let here = step h e in
-      let more = value_after_ge r (n * r + d) (drop (i + 1) ds) pos in
-      let all : 2 ^ 64 ≤ digits_value r ds = omega arith in
-      grind (arith, nat_tests)
-
-  -- All are read.
-  pub reads_all : length ds ≤ i → n < 2 ^ 64 → Some n ≡ small (digits_value r ds)
-  reads_all h low =
-      let is : n ≡ digits_value r ds = sym (at_drop_all (digits_value_after r n) ds i h) ∙ inv in
-      rw (← is) (grind (arith, nat_tests))
+-- The number before the digit at i is n. With that digit, d, it has more than 64 bits, and so it has with all digits.
+pub reads_none : (r n d : ℕ) (ds : List ℕ) (i : ℕ) → digits_value_after r n (drop i ds) ≡ digits_value r ds → 0 < r → i < length ds → d ≡ digit_value (get_or ds i 0) → None ≡ small (n * r + d) → None ≡ small (digits_value r ds)
+reads_none r n d ds i inv pos h e s =
+    let large = small_none _ s in
+    let here : digits_value_after r (n * r + d) (drop (i + 1) ds) ≡ digits_value r ds = rw e (sym (at_drop_more (digits_value_after r n) ds i 0 h) ∙ inv) in
+    let more = value_after_ge r (n * r + d) (drop (i + 1) ds) pos in
+    let all : 2 ^ 64 ≤ digits_value r ds = omega arith in
+    grind (arith, nat_tests)
 
 -- A text of which each byte is a digit is digits.
 pub digits_from_each : (r : ℕ) (t : List ℕ) → list_all (λ b. is_digit b r) t ≡ true → AllDigits r t

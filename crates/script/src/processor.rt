@@ -9,6 +9,23 @@ pub struct Processor<const CPUS: u8> {
     ghost there: { number < CPUS },
 }
 
+impl<const CPUS: u8> Processor<CPUS> {
+    ghost use Rattle.std.specs.Prelude.{◌≡◌};
+    ghost use Rattle.script.specs.Reading.{numbered};
+
+    // The processor of that number, if there are more.
+    pub fn new(number: u64) -> Option<Processor<CPUS>>
+        ensures { result ≡ numbered CPUS number }
+    {
+        if number < u64::from(CPUS) {
+            let number = number as u8;
+            Some(Processor { number })
+        } else {
+            None
+        }
+    }
+}
+
 // As its number.
 impl<const CPUS: u8> fmt::Display for Processor<CPUS> {
     ghost output = { λ p. Some (decimal p.number) };

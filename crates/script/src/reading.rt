@@ -1,6 +1,6 @@
 // The single words that commands are made of.
 ghost use Rattle.std.specs.Prelude.{◌≡◌};
-ghost use Rattle.script.specs.Reading.{numbered, processor_of, count_of, seed_of, prefixed, prefix_of};
+ghost use Rattle.script.specs.Reading.{processor_of, count_of, seed_of, prefix_of};
 
 use crate::expected::Expected;
 use crate::numbers::{address, decimal, length};
@@ -14,25 +14,13 @@ pub struct Prefix {
     pub len: u8,
 }
 
-// The processor of that number, if there is one.
-fn numbered<const CPUS: u8>(number: u64) -> Option<Processor<CPUS>>
-    ensures { result ≡ numbered CPUS number }
-{
-    if number < u64::from(CPUS) {
-        let number = number as u8;
-        Some(Processor { number })
-    } else {
-        None
-    }
-}
-
 pub fn read_processor<const CPUS: u8>(word: &[u8]) -> Result<Processor<CPUS>, Expected>
     ensures { result ≡ processor_of CPUS word.now }
 {
     let Ok(number) = decimal(word) else {
         return Err(Expected::Processor(CPUS));
     };
-    numbered(number).ok_or(Expected::Processor(CPUS))
+    Processor::new(number).ok_or(Expected::Processor(CPUS))
 }
 
 // What is told, or how many turns or stores.
@@ -49,14 +37,6 @@ pub fn read_seed(word: &[u8]) -> Result<u64, Expected>
     decimal(word).map_err(|_| Expected::Seed)
 }
 
-fn prefix_from(bits: Option<u32>, len: Option<u8>) -> Result<Prefix, Expected>
-    ensures { result ≡ prefixed bits len }
-{
-    bits.zip(len)
-        .map(|(bits, len)| Prefix { bits, len })
-        .ok_or(Expected::Prefix)
-}
-
 // An address, a slash and a length.
 pub fn read_prefix(word: &[u8]) -> Result<Prefix, Expected>
     ensures { result ≡ prefix_of word.now }
@@ -64,5 +44,8 @@ pub fn read_prefix(word: &[u8]) -> Result<Prefix, Expected>
     let Some((bits, [b'/', len @ ..])) = word.split_at_checked(8) else {
         return Err(Expected::Prefix);
     };
-    prefix_from(address(bits), length(len))
+    address(bits)
+        .zip(length(len))
+        .map(|(bits, len)| Prefix { bits, len })
+        .ok_or(Expected::Prefix)
 }

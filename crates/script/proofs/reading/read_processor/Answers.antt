@@ -6,7 +6,7 @@ use Rattle.script.proofs.reading.read_processor.Goals as goal
 
 pub returns : goal.returns
 returns g c =
-    c.ok_or.ensures.value ∙ ap (λ o. ok_or o (expected.Processor g.row.CPUS)) c.numbered.ensures ∙
+    c.ok_or.ensures.value ∙ ap (λ o. ok_or o (expected.Processor g.row.CPUS)) c.new.ensures ∙
     sym (processor_read g.row.CPUS c.args.word.now c.in-Ok.number c.in-Ok.ensures)
 
 pub returns-in_default : goal.returns-in_default

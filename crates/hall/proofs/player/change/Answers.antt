@@ -4,7 +4,7 @@ use Rattle.hall.proofs.Pieces.{told_few, many}
 use Rattle.hall.proofs.player.change.Goals as goal
 
 pub returns-then-size-gt8 : goal.returns-then-size-gt8
-returns-then-size-gt8 c = (many _ _ _ c.if-size-gt8.true c.told-pieces ∙ ap Wrong (sym c.number.ensures), refl)
+returns-then-size-gt8 c = (many _ _ _ c.if-size-gt8.true c.told-pieces ∙ ap Wrong (sym c.from.ensures), refl)
 
 pub returns : goal.returns
 returns c =

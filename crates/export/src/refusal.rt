@@ -1,4 +1,4 @@
-// Why a call is refused, and the number that is returned then.
+// Why a call is refused, by the numbers that C programs are returned.
 ghost use Rattle.std.specs.Prelude.{◌≡◌};
 ghost use Rattle.export.specs.Calls.{loaded, number_of, refusal_of, status_of};
 
@@ -8,28 +8,22 @@ use routes::Cpu;
 #[derive(Clone, Copy)]
 pub enum Refusal {
     // the processor's number, or how many there are
-    Number,
+    Number = 1,
     // a slice has the wrong length
-    Length,
+    Length = 2,
     // the registers are damaged
-    Registers,
+    Registers = 3,
     // a reply or a piece that cannot be
-    Value,
+    Value = 4,
     // something is under way already
-    Busy,
+    Busy = 5,
 }
 
 impl From<Refusal> for u32 {
     ghost from_gives = { λ why n. n ≡ number_of why };
 
     fn from(why: Refusal) -> u32 {
-        match why {
-            Refusal::Number => 1,
-            Refusal::Length => 2,
-            Refusal::Registers => 3,
-            Refusal::Value => 4,
-            Refusal::Busy => 5,
-        }
+        why as u32
     }
 }
 

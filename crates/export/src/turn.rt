@@ -1,4 +1,4 @@
-// What a processor asks next, and what it has when the reply is there.
+// What a processor asks next, and what it has when the reply is there; with the parameters of the calls from C.
 ghost use Rattle.std.specs.Prelude.{◌≡◌};
 ghost use Rattle.export.specs.Turns.{ActDone, AfterDone};
 

@@ -32,6 +32,7 @@ pub fn play_lines<I: Read, R: Print>(
     room: &mut [u8],
 ) -> Result<(), Stop> {
     let mut held = 0;
+    // a count, since no number of reads is known after which an input ends
     for _ in 0..u64::MAX {
         let read = input.read(&mut room[held..]).map_err(Stop::Unreadable)?;
         if read == 0 {

@@ -1,4 +1,4 @@
-// What processors ask of the memory.
+// What processors ask of the memory. Processors, blocks and words are plain numbers below the memory's counts, as the trait hands them over.
 ghost use Rattle.std.specs.Prelude.{◌≡◌, ◌<◌, []};
 ghost use Rattle.routes.specs.Memory.{MayTouch, Arrives, sees, fenced, swapped, counted};
 ghost use Rattle.memory.specs.Memories.{mem_of};

@@ -6,10 +6,8 @@ ghost use Rattle.moves.specs.Plays.{Playable, RefusedFor};
 use crate::list::MoveList;
 use crate::listed::all_moves;
 use memory::{Layout, LentMemory, MemoryError, SharedMemory};
+use own::OWN_WORDS;
 use world::{Journal, play};
-
-// Words of each processor's own.
-const OWN_WORDS: usize = 4096;
 
 // Why a list is not played.
 #[derive(Clone, Copy)]

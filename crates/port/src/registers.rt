@@ -7,6 +7,7 @@ use crate::fields::{AnswerWords, Fields, Registers, UnknownState};
 use routes::Cpu;
 use routes::update::job::Job;
 use routes::work::Work;
+use words::low_half;
 
 pub const REGISTER_WORDS: usize = 16;
 
@@ -31,13 +32,7 @@ fn narrow(words: &RegisterWords) -> bool
     words.iter().enumerate().all(|(i, x)| *x <= most_at(i))
 }
 
-// The lower half; `as` alone may cut nothing off, so here and for a byte the remainder is taken first.
-fn low(x: u64) -> u32
-    ensures { result ≡ x % 4294967296 }
-{
-    (x % 0x1_0000_0000) as u32
-}
-
+// The low byte; `as` alone may cut nothing off, so the remainder is taken first.
 fn low_byte(x: u64) -> u8
     ensures { result ≡ x % 256 }
 {
@@ -51,7 +46,7 @@ fn best_in(x: u64) -> AnswerWords
     AnswerWords {
         kind: low_byte(x / 0x100_0000_0000),
         len: low_byte(x / 0x1_0000_0000),
-        tells: low(x),
+        tells: low_half(x),
     }
 }
 
@@ -66,12 +61,12 @@ fn job_in(words: &RegisterWords) -> Job
     ensures { result ≡ job_in words.now }
 {
     Job {
-        size: low(words[2]),
-        need: low(words[3]),
-        got: low(words[4]),
-        used: low(words[5]),
-        retired: low(words[6]),
-        root: low(words[7]),
+        size: low_half(words[2]),
+        need: low_half(words[3]),
+        got: low_half(words[4]),
+        used: low_half(words[5]),
+        retired: low_half(words[6]),
+        root: low_half(words[7]),
     }
 }
 
@@ -79,14 +74,14 @@ fn fields_in(words: &RegisterWords) -> Fields
     ensures { result ≡ fields_in words.now }
 {
     Fields {
-        state: low(words[1]),
+        state: low_half(words[1]),
         epoch: words[8],
-        index: low(words[9]),
-        node: low(words[10]),
-        next: low(words[11]),
+        index: low_half(words[9]),
+        node: low_half(words[10]),
+        next: low_half(words[11]),
         level: low_byte(words[12]),
-        word: low(words[13]),
-        first: low(words[14]),
+        word: low_half(words[13]),
+        first: low_half(words[14]),
         best: best_in(words[15]),
     }
 }
@@ -102,7 +97,7 @@ impl TryFrom<&RegisterWords> for Registers {
             return Err(UnknownState);
         }
         Ok(Registers {
-            phase: low(words[0]),
+            phase: low_half(words[0]),
             job: job_in(words),
             fields: fields_in(words),
         })

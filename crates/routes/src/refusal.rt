@@ -5,9 +5,9 @@ use super::prefix::Prefix;
 
 #[derive(Clone, Copy, PartialEq, Eq)]
 pub enum Refusal {
-    PieceCount,
-    UncleanPrefix,
-    AbsentRoute,
+    PieceCount = 1,
+    UncleanPrefix = 2,
+    AbsentRoute = 3,
 }
 
 // A number by which no refusal is told.
@@ -19,11 +19,7 @@ impl From<Refusal> for u8 {
     ghost from_gives = { Numbers };
 
     fn from(why: Refusal) -> u8 {
-        match why {
-            Refusal::PieceCount => 1,
-            Refusal::UncleanPrefix => 2,
-            Refusal::AbsentRoute => 3,
-        }
+        why as u8
     }
 }
 

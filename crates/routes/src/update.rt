@@ -50,6 +50,7 @@ fn after_lock(was: u64) -> Phase
     }
 }
 
+// The job and the state of its phase are handed over by value and come back changed; the memory and the own words are lent to each step.
 pub fn step_update<M: Memory>(
     job: job::Job,
     phase: Phase,

@@ -28,7 +28,7 @@ pub fn block_of(x: u64) -> u32
     (x % 0x10_0000) as u32
 }
 
-// The low 32 bits of a word.
+// The low 32 bits of a word; a half is no block, so each has a name of its own.
 pub fn low_half(x: u64) -> u32
     ensures { result ≡ x % 2 ^ 32 }
 {

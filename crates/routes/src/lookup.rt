@@ -2,7 +2,8 @@
 ghost use Rattle.std.specs.Prelude.{◌≡◌, ◌+◌, ◌*◌, ◌<◌, ◌≤◌};
 ghost use Rattle.words.specs.Slots.{InRange};
 ghost use Rattle.routes.specs.Machine.Acts.{MayDo};
-ghost use Rattle.routes.specs.Machine.Lookups.{LookupOk, LookupMoved, lookup_act};
+ghost use Rattle.routes.specs.declared.lookup.Lookup.TheVariants.{Node as AtNode};
+ghost use Rattle.routes.specs.Machine.Lookups.{LookupOk, LookupMoved, lookup_act, after_root};
 ghost use Rattle.routes.specs.Tree.Walks.{better as better_of};
 
 use super::access::{load, swap};
@@ -53,6 +54,56 @@ fn better(level: u8, slot: Slot, best: Answer) -> Answer
     }
 }
 
+// From the root on, if there is one: else nothing is found.
+fn after_root(address: u32, epoch: u64, root: u32) -> LookupNext
+    ensures { result ≡ after_root address epoch root }
+{
+    if root == 0 {
+        Continue(Lookup::Leave {
+            epoch,
+            best: Answer::Nothing,
+        })
+    } else {
+        Continue(Lookup::Node {
+            address,
+            epoch,
+            level: 0,
+            node: root,
+            best: Answer::Nothing,
+        })
+    }
+}
+
+// A slot of a node: on to its child, or the end of the way.
+fn look_into<M: Memory>(
+    address: u32,
+    epoch: u64,
+    level: u8,
+    node: u32,
+    best: Answer,
+    w: &mut M,
+    p: u32,
+) -> LookupNext
+    requires ok { LookupOk (AtNode address epoch level node best) }
+    requires may { MayDo (M.mem w.old) p (lookup_act p (AtNode address epoch level node best)) }
+    ensures moved { LookupMoved p (AtNode address epoch level node best) (M.mem w.old) result (M.mem w.new) }
+    ensures unseen { M.seen w.new ≡ M.seen w.old }
+{
+    let slot = Slot::unpack(load(w, p, node, nib(level, address)));
+    let best = better(level, slot, best);
+    if slot.child == 0 || level == 8 {
+        Continue(Lookup::Leave { epoch, best })
+    } else {
+        Continue(Lookup::Node {
+            address,
+            epoch,
+            level: level + 1,
+            node: slot.child,
+            best,
+        })
+    }
+}
+
 pub fn step_lookup<M: Memory>(l: Lookup, w: &mut M, p: u32) -> LookupNext
     requires ok { LookupOk l }
     requires may { MayDo (M.mem w.old) p (lookup_act p l) }
@@ -70,21 +121,8 @@ pub fn step_lookup<M: Memory>(l: Lookup, w: &mut M, p: u32) -> LookupNext
             Continue(Lookup::Root { address, epoch })
         }
         Lookup::Root { address, epoch } => {
-            let node = block_of(load(w, p, HEADER, ROOT));
-            if node == 0 {
-                Continue(Lookup::Leave {
-                    epoch,
-                    best: Answer::Nothing,
-                })
-            } else {
-                Continue(Lookup::Node {
-                    address,
-                    epoch,
-                    level: 0,
-                    node,
-                    best: Answer::Nothing,
-                })
-            }
+            let root = block_of(load(w, p, HEADER, ROOT));
+            after_root(address, epoch, root)
         }
         Lookup::Node {
             address,
@@ -92,21 +130,7 @@ pub fn step_lookup<M: Memory>(l: Lookup, w: &mut M, p: u32) -> LookupNext
             level,
             node,
             best,
-        } => {
-            let slot = Slot::unpack(load(w, p, node, nib(level, address)));
-            let best = better(level, slot, best);
-            if slot.child == 0 || level == 8 {
-                Continue(Lookup::Leave { epoch, best })
-            } else {
-                Continue(Lookup::Node {
-                    address,
-                    epoch,
-                    level: level + 1,
-                    node: slot.child,
-                    best,
-                })
-            }
-        }
+        } => look_into(address, epoch, level, node, best, w, p),
         Lookup::Leave { epoch, best } => {
             let _was = swap(w, p, HEADER, ACTIVE + p, epoch + 1, 0);
             Break(best)

@@ -14,6 +14,14 @@ use Rattle.routes.specs.Memory.{Mem}
 use Rattle.routes.specs.Machine.Acts.{Moved}
 use Rattle.routes.specs.Machine.Finishes.{finishing}
 
+-- the oldest retired node, if there is one
+abbrev pub oldest : Job → GracePeriod → ℕ → ℕ → Phase
+oldest j g left b = cond (b == 0) (finishing j) (InReclaim (RetiredAt g left b))
+
+-- it was retired in this epoch
+abbrev pub stamped : Job → GracePeriod → ℕ → ℕ → ℕ → Phase
+stamped j g left b stamp = cond (nat_lt stamp g.before) (InReclaim (Next g left b)) (finishing j)
+
 -- one of those left has gone
 abbrev pub released : Job → GracePeriod → ℕ → Phase
 released j g left = cond (nat_lt 1 left) (InReclaim (Head g (left - 1))) (finishing j)
@@ -31,8 +39,8 @@ reclaim_act (SetTail g left b) = Store 0 4 0
 reclaim_act (Release g left b) = Give b
 
 abbrev pub reclaim_after : Job → Reclaim → ℕ → Phase
-reclaim_after j (Head g left) x = cond (child_of x == 0) (finishing j) (InReclaim (RetiredAt g left (child_of x)))
-reclaim_after j (RetiredAt g left b) x = cond (nat_lt x g.before) (InReclaim (Next g left b)) (finishing j)
+reclaim_after j (Head g left) x = oldest j g left (child_of x)
+reclaim_after j (RetiredAt g left b) x = stamped j g left b x
 reclaim_after j (Next g left b) x = InReclaim (SetHead g left b (child_of x))
 reclaim_after j (SetHead g left b next) x = unlinked g left b next
 reclaim_after j (SetTail g left b) x = InReclaim (Release g left b)

@@ -2,7 +2,7 @@
 ghost use Rattle.std.specs.Prelude.{◌≡◌};
 ghost use Rattle.routes.specs.declared.act.Act.TheVariants.{Release};
 ghost use Rattle.routes.specs.Machine.Acts.{MayDo, Did};
-ghost use Rattle.routes.specs.Machine.Reclaims.{ReclaimMoved, reclaim_act, released as released_of, unlinked as unlinked_of};
+ghost use Rattle.routes.specs.Machine.Reclaims.{ReclaimMoved, reclaim_act, oldest as oldest_of, stamped as stamped_of, released as released_of, unlinked as unlinked_of};
 
 use super::Phase;
 use super::finish::finishing;
@@ -86,6 +86,28 @@ fn released(job: Job, grace: GracePeriod, left: u32) -> Phase
     }
 }
 
+// The oldest retired node, if there is one: else the update is at its end.
+fn oldest(job: Job, grace: GracePeriod, left: u32, node: u32) -> Phase
+    ensures { result ≡ oldest_of job grace left node }
+{
+    if node == 0 {
+        finishing(job)
+    } else {
+        Phase::Reclaim(Reclaim::RetiredAt { grace, left, node })
+    }
+}
+
+// It was retired in this epoch: it may go, or none may that is in limbo.
+fn stamped(job: Job, grace: GracePeriod, left: u32, node: u32, stamp: u64) -> Phase
+    ensures { result ≡ stamped_of job grace left node stamp }
+{
+    if grace.covers(stamp) {
+        Phase::Reclaim(Reclaim::Next { grace, left, node })
+    } else {
+        finishing(job)
+    }
+}
+
 pub fn step_reclaim<M: Memory>(job: Job, s: Reclaim, w: &mut M, p: u32) -> Phase
     requires may { MayDo (M.mem w.old) p (reclaim_act s) }
     ensures moved { ReclaimMoved p job s (M.mem w.old) result (M.mem w.new) }
@@ -94,19 +116,11 @@ pub fn step_reclaim<M: Memory>(job: Job, s: Reclaim, w: &mut M, p: u32) -> Phase
     match s {
         Reclaim::Head { grace, left } => {
             let node = block_of(load(w, p, HEADER, LIMBO_HEAD));
-            if node == 0 {
-                finishing(job)
-            } else {
-                Phase::Reclaim(Reclaim::RetiredAt { grace, left, node })
-            }
+            oldest(job, grace, left, node)
         }
         Reclaim::RetiredAt { grace, left, node } => {
             let stamp = load(w, p, node, RETIRED_AT);
-            if grace.covers(stamp) {
-                Phase::Reclaim(Reclaim::Next { grace, left, node })
-            } else {
-                finishing(job)
-            }
+            stamped(job, grace, left, node, stamp)
         }
         Reclaim::Next { grace, left, node } => {
             let next = block_of(load(w, p, node, NEXT_RETIRED));

@@ -18,4 +18,3 @@ loop-k-preserved c =
     below_more _ _
     (λ k h. let ne : k ≢ c.loop-k.k = omega (arith, h) in rw get_or-set_other (c.loop-k.invariant k h))
     (rw get_or-set_same (rw (first, second) at c.read_piece.ensures))
-

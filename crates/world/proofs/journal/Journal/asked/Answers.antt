@@ -11,4 +11,3 @@ returns-in-Find c = record {
   seen = λ t. c.asked_find.ensures.seen t ∙ ap (λ (k : Ask). Asked c.args.p k (pieces_of k c.args.pieces.now) ∷ seen_of c.args.self.now) (sym c.in-Find.is);
   unseen = c.asked_find.ensures.unseen;
 }
-

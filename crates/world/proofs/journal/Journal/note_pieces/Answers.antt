@@ -29,4 +29,3 @@ loop-piece-preserved c =
       room = omega (arith, c.note_piece.ensures.room.0, i.room);
       events = c.note_piece.ensures.room.1 ∙ i.events;
     })
-

@@ -51,9 +51,6 @@ module _ (cpus blocks room : ℕ) (ws : List ℕ) (hs : List Bool) (ls : List La
       (mem_same here (val_set ws s.block s.word s.x low inside small) refl (rows_set ls room rs p (record { first = wrapped room ((get_or rs p no_row).first + 1); many = (get_or rs p no_row).many - 1 }) h))
 
 -- There is a late store of p if its row's count is not 0.
-pub none_any : (ls : List LateStore) (room : ℕ) (rs : List Row) (p : ℕ) → (get_or rs p no_row).many ≡ 0 → false ≡ any_late (row_of ls room rs p)
-none_any ls room rs p none = sym (row_any ls room p (get_or rs p no_row).first (get_or rs p no_row).many ∙ le-ltb 0 (get_or rs p no_row).many (omega arith))
-
 pub some_any : (ls : List LateStore) (room : ℕ) (rs : List Row) (p : ℕ) → 0 < (get_or rs p no_row).many → true ≡ any_late (row_of ls room rs p)
 some_any ls room rs p some = sym (row_any ls room p (get_or rs p no_row).first (get_or rs p no_row).many ∙ lt-ltb 0 (get_or rs p no_row).many some)
 

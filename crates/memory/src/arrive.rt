@@ -53,6 +53,7 @@ impl SharedMemory<'_> {
     }
 
     // A row that is full lets its oldest store arrive.
+    // (p < 16 stays a clause: the calls of Memory, whose text is fixed, give a plain u32.)
     fn make_room(&mut self, p: u32)
         requires { p < 16 }
         ensures later { (b w x : ℕ) → Arrives (stored p b w x (mem_of self.old)) (stored p b w x (mem_of self.new)) }

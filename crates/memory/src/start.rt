@@ -82,6 +82,7 @@ fn clear_rows(late: &mut [LateStore])
 
 impl<'a> SharedMemory<'a> {
     // A memory as it starts. Block 0 is noughts; the words of the others stay as they are.
+    // It takes a layout that was made before: a Result of a memory, a struct with `&mut` and ghost fields, gets no proof.
     pub fn new(layout: Layout, lent: LentMemory<'a>) -> SharedMemory<'a>
         requires { LentFor layout (length lent.words.now) (length lent.held.now) (length lent.free.now) (length lent.late.now) }
         ensures starts { AtStart (mem_of result) }

@@ -34,7 +34,3 @@ marks_told bs es fs p a m long h e q l = rw e (elim (eqb_tells q p) [
 pub marks_turned : (bs : List Bool) (es fs : List Event) (p : ℕ) → MarksUnder bs es → fs ≡ Turned p ∷ es → MarksUnder bs fs
 unfolding under
 marks_turned bs es fs p m e q l = rw e (m q l)
-
--- nothing new is seen
-pub marks_same : (bs : List Bool) (es fs : List Event) → MarksUnder bs es → fs ≡ es → MarksUnder bs fs
-marks_same bs es fs m e q l = rw e (m q l)

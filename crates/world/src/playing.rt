@@ -33,6 +33,7 @@ pub fn play<S: Schedule>(
     requires lent { length own.old ≡ 4096 * (mem_of memory.old).cpus }
 {
     let mut cpus = [Cpu::new(); MOST_CPUS];
+    // Piece, whose text is fixed, has no Default
     let mut pieces = [Piece {
         puts: false,
         len: 0,

@@ -18,9 +18,3 @@ loop-k-preserved c =
     below_more _ _
     (λ k h. let ne : k ≢ c.loop-k.k = omega (arith, h) in rw get_or-set_other (c.loop-k.invariant k h))
     (rw get_or-set_same (rw (first, second) at c.read_piece.ensures))
-
-pub returns : goal.returns
-returns c =
-    let fit = c.requires.0 in
-    let many = pair_count c.args.count c.args.at c.args.words.now _ fit.long refl in
-    λ k h. c.loop-k.invariant k (omega (arith, h, c.loop-k-test.false, c.as_chunks.ensures.front_len, many))

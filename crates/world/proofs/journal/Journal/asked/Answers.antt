@@ -11,9 +11,3 @@ returns-in-Find c = record {
   seen = λ t. c.asked_find.ensures.seen t ∙ ap (λ (k : Ask). Asked c.args.p k (pieces_of k c.args.pieces.now) ∷ seen_of c.args.self.now) (sym c.in-Find.is);
   unseen = c.asked_find.ensures.unseen;
 }
-
-pub returns-in-Change : goal.returns-in-Change
-returns-in-Change c = record {
-  seen = λ t. c.asked_change.ensures.seen t ∙ ap (λ (k : Ask). Asked c.args.p k (pieces_of k c.args.pieces.now) ∷ seen_of c.args.self.now) (sym c.in-Change.is);
-  unseen = c.asked_change.ensures.unseen;
-}

@@ -29,15 +29,3 @@ loop-piece-preserved c =
       room = omega (arith, c.note_piece.ensures.room.0, i.room);
       events = c.note_piece.ensures.room.1 ∙ i.events;
     })
-
-pub returns : goal.returns
-returns c =
-    let i = c.loop-piece.invariant in
-    let none = nil_from_length (iter_rest c.loop-piece.piece-iterator.iter) c.in-None.ensures.steps.0 in
-    let whole : length c.args.pieces.now - length (iter_rest c.loop-piece.piece-iterator.iter) ≡ length c.args.pieces.now = omega (arith, c.in-None.ensures.steps.0) in
-    record { read = rw none at (rw whole at i.read); skipped = rw whole at i.skipped; kinds = i.kinds; room = (rw whole at i.room, i.events) }
-
-pub note_piece-requires : goal.note_piece-requires
-note_piece-requires c =
-    let long : length (iter_rest c.loop-piece.piece-iterator.iter) ≡ length (iter_rest c.next.new.self.iter) + 1 = ap length c.in-Some.ensures.steps ∙ length-append (iter_rest c.next.new.self.iter) (c.in-Some.piece.now ∷ []) in
-    omega (arith, long, c.loop-piece.invariant.room, c.loop-piece.invariant.left, c.requires)

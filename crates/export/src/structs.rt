@@ -32,59 +32,54 @@ pub struct ActWords {
     pub new: u64,
 }
 
-const NO_ACT: ActWords = ActWords {
-    kind: PAUSE,
-    block: 0,
-    word: 0,
-    spare: 0,
-    x: 0,
-    new: 0,
-};
+// What asks for nothing but its kind.
+fn of_kind(kind: u32) -> ActWords
+    ensures { result ≡ record { kind = kind; block = 0; word = 0; spare = 0; x = 0; new = 0 } }
+{
+    ActWords {
+        kind,
+        block: 0,
+        word: 0,
+        spare: 0,
+        x: 0,
+        new: 0,
+    }
+}
 
 impl From<Act> for ActWords {
     ghost from_gives = { λ a w. w ≡ act_words a };
 
     fn from(asked: Act) -> ActWords {
         match asked {
-            Act::Pause => NO_ACT,
+            Act::Pause => of_kind(PAUSE),
             Act::Load { block, word } => ActWords {
-                kind: LOAD,
                 block,
                 word,
-                ..NO_ACT
+                ..of_kind(LOAD)
             },
             Act::Store { block, word, x } => ActWords {
-                kind: STORE,
                 block,
                 word,
                 x,
-                ..NO_ACT
+                ..of_kind(STORE)
             },
-            Act::Fence => ActWords {
-                kind: FENCE,
-                ..NO_ACT
-            },
+            Act::Fence => of_kind(FENCE),
             Act::Swap {
                 block,
                 word,
                 old,
                 new,
             } => ActWords {
-                kind: SWAP,
                 block,
                 word,
                 x: old,
                 new,
-                ..NO_ACT
+                ..of_kind(SWAP)
             },
-            Act::Obtain => ActWords {
-                kind: OBTAIN,
-                ..NO_ACT
-            },
+            Act::Obtain => of_kind(OBTAIN),
             Act::Release { block } => ActWords {
-                kind: RELEASE,
                 block,
-                ..NO_ACT
+                ..of_kind(RELEASE)
             },
         }
     }

@@ -42,6 +42,10 @@ abbrev pub answer_of : AnswerWords → Option Answer
 answer_of w =
     case' w.kind 1 (Found w.len w.tells) (case' w.kind 2 Nothing (case' w.kind 3 Done (case' w.kind 4 FullAnswer (case' w.kind 5 (No w.len) None))))
 
+-- a state of this number, with nothing in its fields
+abbrev pub in_state : ℕ → Fields
+in_state n = record { state = n; epoch = 0; index = 0; node = 0; next = 0; level = 0; word = 0; first = 0; best = record { kind = 2; len = 0; tells = 0 } }
+
 abbrev pub refusal_of : ℕ → Option Refusal
 refusal_of n = case' n 1 PieceCount (case' n 2 UncleanPrefix (case' n 3 AbsentRoute None))
 

@@ -1,5 +1,8 @@
 // What a processor has under way as plain numbers: a code for its state and a field for each part. Each phase is converted there and back.
 // The codes are plain numbers, since they stand in words that C programs keep.
+ghost use Rattle.std.specs.Prelude.{◌≡◌};
+ghost use Rattle.port.specs.Fields.{in_state};
+
 mod answer;
 mod build;
 mod check;
@@ -54,21 +57,26 @@ pub struct Fields {
     pub best: AnswerWords,
 }
 
-const NO_FIELDS: Fields = Fields {
-    state: 0,
-    epoch: 0,
-    index: 0,
-    node: 0,
-    next: 0,
-    level: 0,
-    word: 0,
-    first: 0,
-    best: AnswerWords {
-        kind: 2,
-        len: 0,
-        tells: 0,
-    },
-};
+// A state of this number, with nothing in its fields.
+fn in_state(state: u32) -> Fields
+    ensures { result ≡ in_state state }
+{
+    Fields {
+        state,
+        epoch: 0,
+        index: 0,
+        node: 0,
+        next: 0,
+        level: 0,
+        word: 0,
+        first: 0,
+        best: AnswerWords {
+            kind: 2,
+            len: 0,
+            tells: 0,
+        },
+    }
+}
 
 // All of it.
 #[derive(Clone, Copy)]

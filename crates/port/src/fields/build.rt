@@ -3,7 +3,7 @@ ghost use Rattle.std.specs.Prelude.{◌≡◌, Some as Some'};
 ghost use Rattle.std.specs.Result.{result_ok};
 ghost use Rattle.port.specs.Fields.{build_of, publish_of};
 
-use super::{Fields, NO_FIELDS, UnknownState};
+use super::{Fields, UnknownState, in_state};
 use routes::update::build::Build;
 use routes::update::publish::Publish;
 
@@ -12,28 +12,23 @@ impl From<Build> for Fields {
 
     fn from(build: Build) -> Fields {
         match build {
-            Build::Root => Fields {
-                state: 0,
-                ..NO_FIELDS
-            },
+            Build::Root => in_state(0),
             Build::Read {
                 k,
                 level,
                 word,
                 node,
             } => Fields {
-                state: 1,
                 index: k,
                 level,
                 word,
                 node,
-                ..NO_FIELDS
+                ..in_state(1)
             },
             Build::Edit { k, have } => Fields {
-                state: 2,
                 index: k,
                 level: have,
-                ..NO_FIELDS
+                ..in_state(2)
             },
             Build::Write {
                 k,
@@ -41,12 +36,11 @@ impl From<Build> for Fields {
                 level,
                 word,
             } => Fields {
-                state: 3,
                 index: k,
                 first,
                 level,
                 word,
-                ..NO_FIELDS
+                ..in_state(3)
             },
         }
     }
@@ -86,18 +80,9 @@ impl From<Publish> for Fields {
 
     fn from(publish: Publish) -> Fields {
         match publish {
-            Publish::FenceNodes => Fields {
-                state: 0,
-                ..NO_FIELDS
-            },
-            Publish::SetRoot => Fields {
-                state: 1,
-                ..NO_FIELDS
-            },
-            Publish::FenceRoot => Fields {
-                state: 2,
-                ..NO_FIELDS
-            },
+            Publish::FenceNodes => in_state(0),
+            Publish::SetRoot => in_state(1),
+            Publish::FenceRoot => in_state(2),
         }
     }
 }

@@ -3,7 +3,7 @@ ghost use Rattle.std.specs.Prelude.{◌≡◌, Some as Some'};
 ghost use Rattle.std.specs.Result.{result_ok};
 ghost use Rattle.port.specs.Fields.{check_of, refusal_of};
 
-use super::{Fields, NO_FIELDS, UnknownState};
+use super::{Fields, UnknownState, in_state};
 use routes::Refusal;
 use routes::update::check::Check;
 
@@ -13,32 +13,27 @@ impl From<Check> for Fields {
     fn from(check: Check) -> Fields {
         match check {
             Check::Piece { k } => Fields {
-                state: 0,
                 index: k,
-                ..NO_FIELDS
+                ..in_state(0)
             },
             Check::Root { k } => Fields {
-                state: 1,
                 index: k,
-                ..NO_FIELDS
+                ..in_state(1)
             },
             Check::Slot { k, level, node } => Fields {
-                state: 2,
                 index: k,
                 level,
                 node,
-                ..NO_FIELDS
+                ..in_state(2)
             },
             Check::Route { k, node } => Fields {
-                state: 3,
                 index: k,
                 node,
-                ..NO_FIELDS
+                ..in_state(3)
             },
             Check::Reject { why } => Fields {
-                state: 4,
                 index: u32::from(u8::from(why)),
-                ..NO_FIELDS
+                ..in_state(4)
             },
         }
     }

@@ -1,67 +1,45 @@
 // The states in which retired nodes are reclaimed, and an update ends.
 ghost use Rattle.std.specs.Prelude.{◌≡◌, Some as Some'};
 ghost use Rattle.std.specs.Result.{result_ok};
+ghost use Rattle.routes.specs.Machine.Scans.{grace};
 ghost use Rattle.port.specs.Fields.{reclaim_of, finish_of};
 
-use super::{Fields, NO_FIELDS, UnknownState};
+use super::{Fields, UnknownState, in_state};
 use routes::update::finish::Finish;
 use routes::update::reclaim::Reclaim;
 use routes::update::scan::GracePeriod;
+
+// At this node, when so many may still go by the grace period.
+fn at_node(state: u32, period: GracePeriod, left: u32, node: u32) -> Fields
+    ensures { (result.state ≡ state) × (grace result.epoch ≡ period) × (result.index ≡ left) × (result.node ≡ node) }
+{
+    Fields {
+        epoch: period.before(),
+        index: left,
+        node,
+        ..in_state(state)
+    }
+}
 
 impl From<Reclaim> for Fields {
     ghost from_gives = { λ s f. reclaim_of f ≡ Some' s };
 
     fn from(reclaim: Reclaim) -> Fields {
         match reclaim {
-            Reclaim::Head { grace, left } => Fields {
-                state: 0,
-                epoch: grace.before(),
-                index: left,
-                ..NO_FIELDS
-            },
-            Reclaim::RetiredAt { grace, left, node } => Fields {
-                state: 1,
-                epoch: grace.before(),
-                index: left,
-                node,
-                ..NO_FIELDS
-            },
-            Reclaim::Next { grace, left, node } => Fields {
-                state: 2,
-                epoch: grace.before(),
-                index: left,
-                node,
-                ..NO_FIELDS
-            },
+            Reclaim::Head { grace, left } => at_node(0, grace, left, 0),
+            Reclaim::RetiredAt { grace, left, node } => at_node(1, grace, left, node),
+            Reclaim::Next { grace, left, node } => at_node(2, grace, left, node),
             Reclaim::SetHead {
                 grace,
                 left,
                 node,
                 next,
-            } => {
-                Fields {
-                    state: 3,
-                    epoch: grace.before(),
-                    index: left,
-                    node,
-                    next,
-                    ..NO_FIELDS
-                }
-            }
-            Reclaim::SetTail { grace, left, node } => Fields {
-                state: 4,
-                epoch: grace.before(),
-                index: left,
-                node,
-                ..NO_FIELDS
+            } => Fields {
+                next,
+                ..at_node(3, grace, left, node)
             },
-            Reclaim::Release { grace, left, node } => Fields {
-                state: 5,
-                epoch: grace.before(),
-                index: left,
-                node,
-                ..NO_FIELDS
-            },
+            Reclaim::SetTail { grace, left, node } => at_node(4, grace, left, node),
+            Reclaim::Release { grace, left, node } => at_node(5, grace, left, node),
         }
     }
 }
@@ -114,14 +92,8 @@ impl From<Finish> for Fields {
 
     fn from(finish: Finish) -> Fields {
         match finish {
-            Finish::Unused => Fields {
-                state: 0,
-                ..NO_FIELDS
-            },
-            Finish::Unlock => Fields {
-                state: 1,
-                ..NO_FIELDS
-            },
+            Finish::Unused => in_state(0),
+            Finish::Unlock => in_state(1),
         }
     }
 }

@@ -3,7 +3,7 @@ ghost use Rattle.std.specs.Prelude.{◌≡◌, Some as Some'};
 ghost use Rattle.std.specs.Result.{result_ok};
 ghost use Rattle.port.specs.Fields.{lookup_of};
 
-use super::{Fields, NO_FIELDS, UnknownState};
+use super::{Fields, UnknownState, in_state};
 use routes::Answer;
 use routes::lookup::Lookup;
 
@@ -13,21 +13,18 @@ impl From<Lookup> for Fields {
     fn from(lookup: Lookup) -> Fields {
         match lookup {
             Lookup::Epoch { address } => Fields {
-                state: 0,
                 index: address,
-                ..NO_FIELDS
+                ..in_state(0)
             },
             Lookup::Announce { address, epoch } => Fields {
-                state: 1,
                 index: address,
                 epoch,
-                ..NO_FIELDS
+                ..in_state(1)
             },
             Lookup::Root { address, epoch } => Fields {
-                state: 2,
                 index: address,
                 epoch,
-                ..NO_FIELDS
+                ..in_state(2)
             },
             Lookup::Node {
                 address,
@@ -36,19 +33,17 @@ impl From<Lookup> for Fields {
                 node,
                 best,
             } => Fields {
-                state: 3,
                 index: address,
                 epoch,
                 level,
                 node,
                 best: best.into(),
-                ..NO_FIELDS
+                ..in_state(3)
             },
             Lookup::Leave { epoch, best } => Fields {
-                state: 4,
                 epoch,
                 best: best.into(),
-                ..NO_FIELDS
+                ..in_state(4)
             },
         }
     }

@@ -3,7 +3,7 @@ ghost use Rattle.std.specs.Prelude.{◌≡◌, Some as Some'};
 ghost use Rattle.std.specs.Result.{result_ok};
 ghost use Rattle.port.specs.Fields.{obtain_of, recycle_of, scan_of};
 
-use super::{Fields, NO_FIELDS, UnknownState};
+use super::{Fields, UnknownState, in_state};
 use routes::update::obtain::Obtain;
 use routes::update::recycle::Recycle;
 use routes::update::scan::{GracePeriod, Scan};
@@ -13,18 +13,9 @@ impl From<Obtain> for Fields {
 
     fn from(obtain: Obtain) -> Fields {
         match obtain {
-            Obtain::Get => Fields {
-                state: 0,
-                ..NO_FIELDS
-            },
-            Obtain::Undo => Fields {
-                state: 1,
-                ..NO_FIELDS
-            },
-            Obtain::Full => Fields {
-                state: 2,
-                ..NO_FIELDS
-            },
+            Obtain::Get => in_state(0),
+            Obtain::Undo => in_state(1),
+            Obtain::Full => in_state(2),
         }
     }
 }
@@ -49,32 +40,23 @@ impl From<Recycle> for Fields {
 
     fn from(recycle: Recycle) -> Fields {
         match recycle {
-            Recycle::Head => Fields {
-                state: 0,
-                ..NO_FIELDS
-            },
+            Recycle::Head => in_state(0),
             Recycle::RetiredAt { node } => Fields {
-                state: 1,
                 node,
-                ..NO_FIELDS
+                ..in_state(1)
             },
             Recycle::Next { node, grace } => Fields {
-                state: 2,
                 node,
                 epoch: grace.before(),
-                ..NO_FIELDS
+                ..in_state(2)
             },
             Recycle::SetHead { node, next, grace } => Fields {
-                state: 3,
                 node,
                 next,
                 epoch: grace.before(),
-                ..NO_FIELDS
+                ..in_state(3)
             },
-            Recycle::SetTail => Fields {
-                state: 4,
-                ..NO_FIELDS
-            },
+            Recycle::SetTail => in_state(4),
         }
     }
 }
@@ -109,17 +91,15 @@ impl From<Scan> for Fields {
     fn from(scan: Scan) -> Fields {
         match scan {
             Scan::ForNode { q, node, stamp } => Fields {
-                state: 0,
                 index: q,
                 node,
                 epoch: stamp,
-                ..NO_FIELDS
+                ..in_state(0)
             },
             Scan::ForLimit { q, limit } => Fields {
-                state: 1,
                 index: q,
                 epoch: limit,
-                ..NO_FIELDS
+                ..in_state(1)
             },
         }
     }

@@ -3,7 +3,7 @@ ghost use Rattle.std.specs.Prelude.{◌≡◌, Some as Some'};
 ghost use Rattle.std.specs.Result.{result_ok};
 ghost use Rattle.port.specs.Fields.{retire_of};
 
-use super::{Fields, NO_FIELDS, UnknownState};
+use super::{Fields, UnknownState, in_state};
 use routes::update::retire::Retire;
 
 impl From<Retire> for Fields {
@@ -11,48 +11,29 @@ impl From<Retire> for Fields {
 
     fn from(retire: Retire) -> Fields {
         match retire {
-            Retire::Epoch => Fields {
-                state: 0,
-                ..NO_FIELDS
-            },
+            Retire::Epoch => in_state(0),
             Retire::SetEpoch { epoch } => Fields {
-                state: 1,
                 epoch,
-                ..NO_FIELDS
+                ..in_state(1)
             },
             Retire::SetAt { i, epoch } => Fields {
-                state: 2,
                 index: i,
                 epoch,
-                ..NO_FIELDS
+                ..in_state(2)
             },
             Retire::SetNext { i, epoch } => Fields {
-                state: 3,
                 index: i,
                 epoch,
-                ..NO_FIELDS
+                ..in_state(3)
             },
-            Retire::Tail => Fields {
-                state: 4,
-                ..NO_FIELDS
-            },
-            Retire::SetHead => Fields {
-                state: 5,
-                ..NO_FIELDS
-            },
+            Retire::Tail => in_state(4),
+            Retire::SetHead => in_state(5),
             Retire::Link { tail } => Fields {
-                state: 6,
                 node: tail,
-                ..NO_FIELDS
+                ..in_state(6)
             },
-            Retire::SetTail => Fields {
-                state: 7,
-                ..NO_FIELDS
-            },
-            Retire::Fence => Fields {
-                state: 8,
-                ..NO_FIELDS
-            },
+            Retire::SetTail => in_state(7),
+            Retire::Fence => in_state(8),
         }
     }
 }

@@ -4,7 +4,7 @@ ghost use Rattle.std.specs.Result.{result_ok};
 ghost use Rattle.routes.specs.declared.work.Work.TheVariants.{Update};
 ghost use Rattle.port.specs.Fields.{phase_of, work_of};
 
-use super::{Fields, NO_FIELDS, Registers, UnknownState};
+use super::{Fields, Registers, UnknownState, in_state};
 use routes::lookup::Lookup;
 use routes::update::Phase;
 use routes::update::build::Build;
@@ -23,8 +23,8 @@ fn update_registers(job: Job, phase: Phase) -> Registers
     ensures { work_of result ≡ Some' (Update job phase) }
 {
     let (phase, fields) = match phase {
-        Phase::Refuse => (2, NO_FIELDS),
-        Phase::Lock => (3, NO_FIELDS),
+        Phase::Refuse => (2, in_state(0)),
+        Phase::Lock => (3, in_state(0)),
         Phase::Check(s) => (4, Fields::from(s)),
         Phase::Obtain(s) => (5, Fields::from(s)),
         Phase::Recycle(s) => (6, Fields::from(s)),
@@ -46,7 +46,7 @@ impl From<Work> for Registers {
             Work::Idle => Registers {
                 phase: 0,
                 job: Job::default(),
-                fields: NO_FIELDS,
+                fields: in_state(0),
             },
             Work::Lookup(lookup) => Registers {
                 phase: 1,

@@ -27,9 +27,13 @@ pub record FirstAt (x : ℕ) (t : List ℕ) (n : ℕ) : Type 0 where
   pub here : slice_index_or t n 0 ≡ x
   pub before : (k : ℕ) → k < n → slice_index t k ≢ x
 
+-- a processor, and how many of something
+unfoldable pub counted_of : (cpus : ℕ) → List ℕ → Result (Processor cpus × ℕ) Expected
+counted_of cpus t = processor_of cpus (word t) >>= λ p. count_of (word (past t)) >>= λ n. end_of expected.End (past (past t)) >>= λ _. Ok (p, n)
+
 -- up to so many turns of a processor
 abbrev pub go_of : (cpus : ℕ) → List ℕ → Result (Command cpus) Expected
-go_of cpus t = processor_of cpus (word t) >>= λ p. count_of (word (past t)) >>= λ n. end_of expected.End (past (past t)) >>= λ _. Ok (command.Go p n)
+go_of cpus t = counted_of cpus t >>= λ c. Ok (command.Go c.0 c.1)
 
 -- turns of a processor until it is told
 abbrev pub on_of : (cpus : ℕ) → List ℕ → Result (Command cpus) Expected
@@ -41,7 +45,7 @@ any_of cpus t = seed_of (word t) >>= λ s. count_of (word (past t)) >>= λ n. en
 
 -- stores of a processor arrive
 abbrev pub arrive_of : (cpus : ℕ) → List ℕ → Result (Command cpus) Expected
-arrive_of cpus t = processor_of cpus (word t) >>= λ p. count_of (word (past t)) >>= λ n. end_of expected.End (past (past t)) >>= λ _. Ok (command.Arrive p n)
+arrive_of cpus t = counted_of cpus t >>= λ c. Ok (command.Arrive c.0 c.1)
 
 -- a question begins
 abbrev pub find_of : {cpus : ℕ} → Processor cpus → List ℕ → Result (Command cpus) Expected

@@ -1,6 +1,6 @@
 // Commands, and the lines that they stand on.
 ghost use Rattle.std.specs.Prelude.{◌≡◌};
-ghost use Rattle.script.specs.Lines.{go_of, on_of, any_of, arrive_of, find_of, changes_of, ask_of, begin_of, command_of};
+ghost use Rattle.script.specs.Lines.{counted_of, go_of, on_of, any_of, arrive_of, find_of, changes_of, ask_of, begin_of, command_of};
 
 use crate::bytes::all_digits;
 use crate::expected::Expected;
@@ -41,12 +41,21 @@ pub enum Command<const CPUS: u8> {
     },
 }
 
-fn go<const CPUS: u8>(mut words: Words) -> Result<Command<CPUS>, Expected>
-    ensures { result ≡ go_of CPUS words.entry.rest.now }
+// A processor, and how many turns or stores of it.
+#[tactic(auto, unfolding(crate::specs::Lines::counted_of))]
+fn counted<const CPUS: u8>(mut words: Words) -> Result<(Processor<CPUS>, u32), Expected>
+    ensures { result ≡ counted_of CPUS words.entry.rest.now }
 {
     let cpu = read_processor(words.next())?;
-    let turns = read_count(words.next())?;
+    let count = read_count(words.next())?;
     words.end(Expected::End)?;
+    Ok((cpu, count))
+}
+
+fn go<const CPUS: u8>(words: Words) -> Result<Command<CPUS>, Expected>
+    ensures { result ≡ go_of CPUS words.entry.rest.now }
+{
+    let (cpu, turns) = counted(words)?;
     Ok(Command::Go { cpu, turns })
 }
 
@@ -67,12 +76,10 @@ fn any<const CPUS: u8>(mut words: Words) -> Result<Command<CPUS>, Expected>
     Ok(Command::Any { seed, turns })
 }
 
-fn arrive<const CPUS: u8>(mut words: Words) -> Result<Command<CPUS>, Expected>
+fn arrive<const CPUS: u8>(words: Words) -> Result<Command<CPUS>, Expected>
     ensures { result ≡ arrive_of CPUS words.entry.rest.now }
 {
-    let cpu = read_processor(words.next())?;
-    let stores = read_count(words.next())?;
-    words.end(Expected::End)?;
+    let (cpu, stores) = counted(words)?;
     Ok(Command::Arrive { cpu, stores })
 }
 

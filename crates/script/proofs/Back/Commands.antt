@@ -14,7 +14,7 @@ use Rattle.script.specs.declared.command.Command.TheVariants.{Begin, Go, On, Any
 use Rattle.script.specs.declared.expected.Expected.TheVariants as expected
 use Rattle.script.specs.declared.processor.Processor.{Processor}
 use Rattle.script.specs.Bytes.{letter}
-use Rattle.script.specs.Lines.{command_of, ask_of, passed, chomped, line_from, line_of}
+use Rattle.script.specs.Lines.{counted_of, command_of, ask_of, passed, chomped, line_from, line_of}
 use Rattle.script.specs.Numbers.{address_of}
 use Rattle.script.specs.Pieces.{blank_piece, change_of}
 use Rattle.script.specs.Reading.{processor_of, count_of, seed_of}
@@ -113,12 +113,17 @@ module _ (cpus : ℕ) (few : cpus < 256) where
     asked_back (Find a) ps f = rw f.1 (find_back a f.0)
     asked_back (Change n) ps f = change_back n ps f
 
+  -- A processor and how many are read back.
+  counted_back : (p : Processor cpus) (n : ℕ) → n < 2 ^ 32 → counted_of cpus (after 32 (decimal p.number ∷ decimal n ∷ [])) ≡ Ok (p, n)
+  unfolding counted_of
+  counted_back p n f = two_back (processor_of cpus) count_of expected.End (λ q m. (q, m)) _ _ p n (cpu_plain p) (count_plain n f) (cpu_back p) (count_back n f)
+
   pub read_back : (c : Command cpus) → Fits c → line_of cpus (shown c) ≡ Ok (Some c)
   read_back (Begin p r) f = asked_back p r.ask r.pieces f
   read_back (Go p n) f =
       let each = All-from_recursion Plain (decimal p.number ∷ decimal n ∷ []) (cpu_plain p, (count_plain n f, tt)) in
       sentence_back cpus (codes "go") (decimal p.number ∷ decimal n ∷ []) _ go_plain each refl
-      (two_back (processor_of cpus) count_of expected.End Go _ _ p n (cpu_plain p) (count_plain n f) (cpu_back p) (count_back n f))
+      (rw (counted_back p n f) refl)
   read_back (On p) f =
       let each = All-from_recursion Plain (decimal p.number ∷ []) (cpu_plain p, tt) in
       sentence_back cpus (codes "on") (decimal p.number ∷ []) _ on_plain each refl
@@ -130,7 +135,7 @@ module _ (cpus : ℕ) (few : cpus < 256) where
   read_back (Arrive p n) f =
       let each = All-from_recursion Plain (decimal p.number ∷ decimal n ∷ []) (cpu_plain p, (count_plain n f, tt)) in
       sentence_back cpus (codes "arrive") (decimal p.number ∷ decimal n ∷ []) _ arrive_plain each refl
-      (two_back (processor_of cpus) count_of expected.End Arrive _ _ p n (cpu_plain p) (count_plain n f) (cpu_back p) (count_back n f))
+      (rw (counted_back p n f) refl)
 
 -- The promise.
 pub reads_back_lem : ReadsBack

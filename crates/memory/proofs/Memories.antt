@@ -1,6 +1,6 @@
 -- What a write to one of the slices is in the memory that they stand for.
-use Rattle.std.proofs.Common.{◌≡◌, ℕ, ◌+◌, ◌-◌, ◌*◌, ◌<◌, ◌≤◌, Bool, true, false, List, [], ◌∷◌, length, get_or, set, is_some, Some, None, Option, sym, refl, ◌∙◌, arith}
-use Rattle.std.proofs.lemmas.Bool.{lt-ltb, le-ltb}
+use Rattle.std.proofs.Common.{◌≡◌, ℕ, ◌+◌, ◌-◌, ◌*◌, ◌<◌, ◌≤◌, Bool, true, List, [], ◌∷◌, length, get_or, set, is_some, Some, None, Option, sym, refl, ◌∙◌}
+use Rattle.std.proofs.lemmas.Bool.{lt-ltb}
 use Rattle.std.specs.Option.{option_map}
 use Rattle.routes.specs.Memory.{Mem, Store, with', set_val, set_at, stored, oldest}
 use Rattle.memory.specs.declared.row.LateStore.{LateStore}

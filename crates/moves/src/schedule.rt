@@ -1,12 +1,12 @@
 // A list of moves as the schedule of a world.
 use crate::list::MoveList;
-use memory::{LateStore, MOST_CPUS};
+use memory::LateStore;
 use routes::act::Act;
 use routes::{Answer, Piece};
 use world::{Move, Schedule};
 
 impl Schedule for MoveList<'_> {
-    fn next(&mut self, busy: &[bool; MOST_CPUS], pieces: &mut [Piece; 8]) -> Move {
+    fn next(&mut self, busy: &[bool], pieces: &mut [Piece; 8]) -> Move {
         loop {
             if let Some(next) = self.advance(busy, pieces) {
                 return next;

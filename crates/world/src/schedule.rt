@@ -1,5 +1,5 @@
 // Who takes turns, what begins, and which stores arrive.
-use memory::{LateStore, MOST_CPUS};
+use memory::LateStore;
 use routes::act::Act;
 use routes::{Answer, Ask, Piece};
 
@@ -19,7 +19,7 @@ pub enum Move {
 // Decides what comes next, and is shown what happens. Nothing is promised of it: a world is one whatever its schedule does.
 pub trait Schedule {
     // What comes next, by which processors have something under way; the row is for the pieces of a change that begins.
-    fn next(&mut self, busy: &[bool; MOST_CPUS], pieces: &mut [Piece; 8]) -> Move;
+    fn next(&mut self, busy: &[bool], pieces: &mut [Piece; 8]) -> Move;
 
     // A processor asked something of the memory in its turn, and this was the reply.
     fn asked(&mut self, cpu: u32, act: Act, reply: u64);

@@ -114,7 +114,7 @@ fn change(table: &mut PlainTable, size: u32, pieces: &[Piece; 8]) -> Answer
     outcome(table.change(&pieces[..size as usize]))
 }
 
-// What is told of how a change went.
+// What is told of how a change went; no From, since the result and `Answer` are both of other crates.
 fn outcome(res: Result<(), ChangeError>) -> Answer
     ensures { result ≡ outcome_of res }
 {

@@ -64,7 +64,7 @@ fn read_piece(text: &[u8]) -> Result<Piece, Expected>
     }
 }
 
-// A piece goes into its place, if there is one.
+// A piece goes into its place, if there is one; not by get_mut, of which no clause says what a write leaves.
 fn put_at(pieces: &mut [Piece], at: usize, piece: Piece)
     ensures { pieces.new ≡ slice_set pieces.old at piece }
 {

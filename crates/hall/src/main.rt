@@ -1,4 +1,5 @@
 // Plays scripts of a parcel hall: processors look routes up and change them, a turn at a time.
+// The runtime and the room for a line are handed on to whoever reads or prints; there is one of each for all scripts.
 #![tactic(auto)]
 
 ghost use Rattle.std.specs.Prelude.{◌≡◌, is_err};

@@ -1,4 +1,5 @@
 // Moves in words. The first word of a move is its kind, 16 times its processor and 256 times a number; a change has two words more for each piece, of the first eight.
+// A move stands at a place in the words, not in front of what is left of them: the caller is told how many were read.
 ghost use Rattle.std.specs.Prelude.{◌≡◌, ◌+◌, ◌*◌, ◌<◌, ◌≤◌, T, length, MatchOption};
 ghost use Rattle.moves.specs.Moves.{kept_of, body_of, width_of, head_of, PiecesFit, IsMove, AllMoves};
 

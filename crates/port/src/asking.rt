@@ -1,4 +1,4 @@
-// What the next turn of a processor asks of the memory.
+// What the next turn of a processor asks of the memory. Each function takes what its phase has, part by part, as the steps of `routes` do.
 ghost use Rattle.std.specs.Prelude.{◌≡◌, ◌+◌, ◌<◌};
 ghost use Rattle.routes.specs.declared.act.Act.TheVariants.{Swap};
 ghost use Rattle.routes.specs.Machine.Builds.{BuildOk, build_act};

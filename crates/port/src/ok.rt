@@ -1,4 +1,4 @@
-// Are registers in the ranges that a turn needs?
+// Are registers in the ranges that a turn needs? Each function takes what its phase has, part by part, as the steps of `routes` do.
 ghost use Rattle.std.specs.Prelude.{◌<◌, T};
 ghost use Rattle.routes.specs.Machine.Builds.{BuildOk, Building};
 ghost use Rattle.routes.specs.Machine.Checks.{CheckOk, CleanIn, AtPiece};

@@ -1,4 +1,4 @@
-// A memory for one turn: it is asked one thing, and its reply is given beforehand.
+// A memory for one turn: it is asked one thing, and its reply is given beforehand. The two meet in that turn alone, so no struct holds them.
 ghost use Rattle.std.specs.Prelude.{◌≡◌, ◌<◌, ◌≤◌, T, []};
 ghost use Rattle.std.specs.Option.{ForSome};
 ghost use Rattle.port.specs.Replies.{ReplyFits, free_for, mem_of, waiting};

@@ -8,6 +8,8 @@ mod draft;
 mod entry;
 mod size;
 mod table;
+#[cfg(test)]
+mod tests;
 
 pub use change_error::ChangeError;
 pub use size::ROOM;

@@ -12,7 +12,7 @@ use routes::{Ask, Cpu, Piece};
 use std::array;
 
 // Eight pieces, each with four words.
-type PieceWords = [u64; 32];
+type PiecesWords = [u64; 32];
 
 // Registers as a processor starts with them.
 pub fn start(registers: &mut [u64]) -> Result<(), Refusal>
@@ -48,7 +48,7 @@ pub fn begin_lookup(registers: &mut [u64], address: u32) -> Result<(), Refusal>
     Ok(())
 }
 
-fn piece_fits(words: &PieceWords, k: usize) -> bool
+fn piece_fits(words: &PiecesWords, k: usize) -> bool
     requires { k < 8 }
     ensures { result ≡ piece_fits_of words.now k }
 {
@@ -60,13 +60,13 @@ fn piece_fits(words: &PieceWords, k: usize) -> bool
 }
 
 // Are the numbers of all pieces such as they can be?
-fn pieces_fit(words: &PieceWords) -> bool
+fn pieces_fit(words: &PiecesWords) -> bool
     ensures { result ≡ pieces_fit_of words.now }
 {
     (0..8).all(|k| piece_fits(words, k))
 }
 
-fn piece_in(words: &PieceWords, k: usize) -> Piece
+fn piece_in(words: &PiecesWords, k: usize) -> Piece
     requires { k < 8 }
     ensures { result ≡ piece_in words.now k }
 {
@@ -79,7 +79,7 @@ fn piece_in(words: &PieceWords, k: usize) -> Piece
     }
 }
 
-fn pieces_in(words: &PieceWords) -> [Piece; 8]
+fn pieces_in(words: &PiecesWords) -> [Piece; 8]
     ensures { result ≡ pieces_in words.now }
 {
     array::from_fn(|k| piece_in(words, k))
@@ -99,7 +99,7 @@ pub fn begin_update(
     if own.len() != OWN_WORDS {
         return Err(Refusal::Length);
     }
-    let pieces: &PieceWords = pieces.as_array().ok_or(Refusal::Length)?;
+    let pieces: &PiecesWords = pieces.as_array().ok_or(Refusal::Length)?;
     if !pieces_fit(pieces) {
         return Err(Refusal::Value);
     }

@@ -1,4 +1,4 @@
-// What a caller lends for a memory.
+// What a caller lends for a memory, in C too: slices side by side.
 use crate::row::LateStore;
 
 // The words of the blocks, a mark for each block, a place on the stack for each block, and 16 rows of late stores.

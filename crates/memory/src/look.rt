@@ -32,6 +32,7 @@ impl LateRow<'_> {
     pub fn newest(&self, block: u32, word: u32) -> Option<u64>
         ensures { MatchOption result ((old : ℕ) → last_late block word (stores_of self.now) old ≡ old) (λ x. (old : ℕ) → last_late block word (stores_of self.now) old ≡ x) }
     {
+        // not find_map, with which search finds no proof
         for k in (0..self.row.many).rev() {
             if let Some(x) = self.put_by(k, block, word) {
                 return Some(x);

@@ -1,10 +1,10 @@
 // How large a memory is.
 
 // words of a block
-pub const BLOCK_WORDS: usize = 48;
+pub const BLOCK_WORDS: usize = routes::BLOCK_WORDS as usize;
 // of processors at most, and of rows
-pub const MOST_CPUS: usize = 16;
+pub const MOST_CPUS: usize = routes::MOST_CPUS as usize;
 // of blocks
 pub const LEAST_BLOCKS: u32 = 256;
 
-pub const MOST_BLOCKS: u32 = 1_048_576;
+pub use routes::MOST_BLOCKS;

@@ -15,8 +15,15 @@ use crate::size::{BLOCK_WORDS, LEAST_BLOCKS, MOST_BLOCKS, MOST_CPUS};
 
 impl Layout {
     // The layout of so many processors and blocks in slices that are as long as they have to be.
-    pub fn new(cpus: u32, blocks: u32, lent: &LentMemory<'_>) -> Result<Layout, MemoryError>
-        ensures { MatchResult result (LaidOut cpus blocks (length lent.now.words.now) (length lent.now.held.now) (length lent.now.free.now) (length lent.now.late.now)) (λ e. misfit cpus blocks (length lent.now.words.now) (length lent.now.held.now) (length lent.now.free.now) (length lent.now.late.now) ≡ Some e) }
+    pub fn new(
+        cpus: u32,
+        blocks: u32,
+        words: &[u64],
+        held: &[bool],
+        free: &[u32],
+        late: &[LateStore],
+    ) -> Result<Layout, MemoryError>
+        ensures { MatchResult result (LaidOut cpus blocks (length words.now) (length held.now) (length free.now) (length late.now)) (λ e. misfit cpus blocks (length words.now) (length held.now) (length free.now) (length late.now) ≡ Some e) }
     {
         if cpus == 0 || cpus as usize > MOST_CPUS {
             return Err(MemoryError::Cpus);
@@ -24,22 +31,22 @@ impl Layout {
         if !(LEAST_BLOCKS..=MOST_BLOCKS).contains(&blocks) {
             return Err(MemoryError::Blocks);
         }
-        if lent.words.len() != BLOCK_WORDS * blocks as usize {
+        if words.len() != BLOCK_WORDS * blocks as usize {
             return Err(MemoryError::Words);
         }
-        if lent.held.len() != blocks as usize {
+        if held.len() != blocks as usize {
             return Err(MemoryError::Marks);
         }
-        if lent.free.len() != blocks as usize {
+        if free.len() != blocks as usize {
             return Err(MemoryError::Stack);
         }
-        if lent.late.is_empty() || lent.late.len() % MOST_CPUS != 0 {
+        if late.is_empty() || late.len() % MOST_CPUS != 0 {
             return Err(MemoryError::Rows);
         }
         Ok(Layout {
             cpus,
             blocks,
-            room: lent.late.len() / MOST_CPUS,
+            room: late.len() / MOST_CPUS,
         })
     }
 }

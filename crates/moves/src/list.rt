@@ -55,6 +55,7 @@ fn read_pieces(words: &[u64], at: usize, count: usize, row: &mut [Piece])
     ensures { (k : ℕ) → k < count → slice_index_or row.new k blank ≡ piece_at words.now (at + 2 * k) }
 {
     let (pairs, _) = words[at..at + 2 * count].as_chunks::<2>();
+    // not a zip with iter_mut, of which a proof knows the length alone
     for (k, [first, second]) in pairs.iter().enumerate() {
         row[k] = read_piece(*first, *second);
     }

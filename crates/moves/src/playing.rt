@@ -54,7 +54,7 @@ fn layout_for(
 ) -> Result<Layout, Refused>
     ensures { MatchResult result (Playable (record { cpus = cpus; blocks = blocks; words = length lent.now.words.now; held = length lent.now.held.now; free = length lent.now.free.now; late = length lent.now.late.now; own = length own.now }) moves.now) (RefusedFor (record { cpus = cpus; blocks = blocks; words = length lent.now.words.now; held = length lent.now.held.now; free = length lent.now.free.now; late = length lent.now.late.now; own = length own.now }) moves.now) }
 {
-    let layout = Layout::new(cpus, blocks, lent)?;
+    let layout = Layout::new(cpus, blocks, lent.words, lent.held, lent.free, lent.late)?;
     if own.len() != OWN_WORDS * cpus as usize {
         return Err(Refused::Own);
     }

@@ -49,7 +49,7 @@ fn point(own: &mut OwnWords, a: u32, first: u32, d: u8, levels: u32) -> u32
     let n = nib(d, a);
     if is_empty(own, d + 1) {
         own[image_at(d, n)] = 0;
-        d as u32 + 1
+        u32::from(d) + 1
     } else {
         own[image_at(d, n)] = own[FRESH + (first as usize + (d as usize + 1))];
         levels
@@ -64,7 +64,7 @@ fn point_all(own: &mut OwnWords, a: u32, first: u32, deep: u8) -> u32
     ensures some { 1 ≤ result }
     ensures few { result ≤ deep + 1 }
 {
-    let mut levels = deep as u32 + 1;
+    let mut levels = u32::from(deep) + 1;
     for d in (0..deep).rev() {
         levels = point(own, a, first, d, levels);
     }

@@ -4,7 +4,7 @@ ghost use Rattle.own.specs.Layout.{piece_at, image_at};
 
 // How many words a processor has of its own.
 pub const OWN_WORDS: usize = 4096;
-// They are lent by whoever takes the turns, in one row; the parts of it have fixed places.
+// A processor's own words are lent by whoever takes the turns, in one row; the parts of it have fixed places.
 pub type OwnWords = [u64; OWN_WORDS];
 
 // The 8 pieces of a change, 4 words each: whether it puts, length, bits, what is told.
@@ -24,7 +24,7 @@ pub fn piece_word_at(k: u32, i: u32) -> usize
     PIECES + 4 * k as usize + i as usize
 }
 
-// Where word i of the image of level d is. A level is a plain number, as is the number of a piece: they are counted up and down and multiplied.
+// Where word i of the image of level d is. Levels are plain numbers, as those of pieces and blocks are: they are counted up and down and multiplied.
 pub fn image_at(d: u8, i: u32) -> usize
     requires { (d ≤ 8) × (i < 32) }
     ensures { result ≡ image_at d i }

@@ -28,7 +28,7 @@ pub fn write_piece(own: &mut OwnWords, k: u32, piece: PieceWords)
     requires { k < 8 }
     ensures { own.new ≡ piece_written own.old k piece }
 {
-    own[piece_word_at(k, 0)] = if piece.puts { 1 } else { 0 };
+    own[piece_word_at(k, 0)] = u64::from(piece.puts);
     own[piece_word_at(k, 1)] = piece.len;
     own[piece_word_at(k, 2)] = piece.bits;
     own[piece_word_at(k, 3)] = piece.tells;

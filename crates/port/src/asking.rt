@@ -16,7 +16,9 @@ ghost use Rattle.routes.specs.Machine.Updates.{UpdateOk, update_act};
 
 use own::{OwnWords, fresh_at, image_word, retired_at};
 use routes::act::Act;
+use routes::header::{ACTIVE, EPOCH, HEADER, LIMBO_HEAD, LIMBO_TAIL, ROOT, WRITER};
 use routes::lookup::Lookup;
+use routes::node::{NEXT_RETIRED, RETIRED_AT, ROUTES};
 use routes::update::Phase;
 use routes::update::build::Build;
 use routes::update::check::{Check, prefix_at};
@@ -35,8 +37,8 @@ fn unlock(p: u32) -> Act
     ensures { result ≡ Swap 0 0 (p + 1) 0 }
 {
     Act::Swap {
-        block: 0,
-        word: 0,
+        block: HEADER,
+        word: WRITER,
         old: u64::from(p) + 1,
         new: 0,
     }
@@ -47,14 +49,20 @@ fn lookup_asks(p: u32, l: Lookup) -> Act
     ensures { result ≡ lookup_act p l }
 {
     match l {
-        Lookup::Epoch { .. } => Act::Load { block: 0, word: 2 },
+        Lookup::Epoch { .. } => Act::Load {
+            block: HEADER,
+            word: EPOCH,
+        },
         Lookup::Announce { epoch, .. } => Act::Swap {
-            block: 0,
-            word: 16 + p,
+            block: HEADER,
+            word: ACTIVE + p,
             old: 0,
             new: epoch + 1,
         },
-        Lookup::Root { .. } => Act::Load { block: 0, word: 1 },
+        Lookup::Root { .. } => Act::Load {
+            block: HEADER,
+            word: ROOT,
+        },
         Lookup::Node {
             address,
             level,
@@ -65,8 +73,8 @@ fn lookup_asks(p: u32, l: Lookup) -> Act
             word: nib(level, address),
         },
         Lookup::Leave { epoch, .. } => Act::Swap {
-            block: 0,
-            word: 16 + p,
+            block: HEADER,
+            word: ACTIVE + p,
             old: epoch + 1,
             new: 0,
         },
@@ -79,7 +87,10 @@ fn check_asks(p: u32, job: Job, s: Check, own: &OwnWords) -> Act
 {
     match s {
         Check::Piece { .. } => Act::Pause,
-        Check::Root { .. } => Act::Load { block: 0, word: 1 },
+        Check::Root { .. } => Act::Load {
+            block: HEADER,
+            word: ROOT,
+        },
         Check::Slot { k, level, node } => Act::Load {
             block: node,
             word: nib(level, prefix_at(own, k).bits),
@@ -88,7 +99,7 @@ fn check_asks(p: u32, job: Job, s: Check, own: &OwnWords) -> Act
             let prefix = prefix_at(own, k);
             Act::Load {
                 block: node,
-                word: 16 + route_place(prefix.len, prefix.bits),
+                word: ROUTES + route_place(prefix.len, prefix.bits),
             }
         }
         Check::Reject { .. } => unlock(p),
@@ -112,23 +123,26 @@ fn recycle_asks(s: Recycle) -> Act
     ensures { result ≡ recycle_act s }
 {
     match s {
-        Recycle::Head => Act::Load { block: 0, word: 3 },
+        Recycle::Head => Act::Load {
+            block: HEADER,
+            word: LIMBO_HEAD,
+        },
         Recycle::RetiredAt { node } => Act::Load {
             block: node,
-            word: 31,
+            word: RETIRED_AT,
         },
         Recycle::Next { node, .. } => Act::Load {
             block: node,
-            word: 32,
+            word: NEXT_RETIRED,
         },
         Recycle::SetHead { next, .. } => Act::Store {
-            block: 0,
-            word: 3,
+            block: HEADER,
+            word: LIMBO_HEAD,
             x: next as u64,
         },
         Recycle::SetTail => Act::Store {
-            block: 0,
-            word: 4,
+            block: HEADER,
+            word: LIMBO_TAIL,
             x: 0,
         },
     }
@@ -140,8 +154,8 @@ fn scan_asks(s: Scan) -> Act
 {
     match s {
         Scan::ForNode { q, .. } | Scan::ForLimit { q, .. } => Act::Load {
-            block: 0,
-            word: 16 + q,
+            block: HEADER,
+            word: ACTIVE + q,
         },
     }
 }
@@ -151,7 +165,10 @@ fn build_asks(job: Job, s: Build, own: &OwnWords) -> Act
     ensures { result ≡ build_act s own.now }
 {
     match s {
-        Build::Root => Act::Load { block: 0, word: 1 },
+        Build::Root => Act::Load {
+            block: HEADER,
+            word: ROOT,
+        },
         Build::Read { word, node, .. } => Act::Load { block: node, word },
         Build::Edit { .. } => Act::Pause,
         Build::Write {
@@ -175,8 +192,8 @@ fn publish_asks(job: Job, s: Publish) -> Act
     match s {
         Publish::FenceNodes | Publish::FenceRoot => Act::Fence,
         Publish::SetRoot => Act::Store {
-            block: 0,
-            word: 1,
+            block: HEADER,
+            word: ROOT,
             x: job.root as u64,
         },
     }
@@ -187,36 +204,42 @@ fn retire_asks(job: Job, s: Retire, own: &OwnWords) -> Act
     ensures { result ≡ retire_act job s own.now }
 {
     match s {
-        Retire::Epoch => Act::Load { block: 0, word: 2 },
+        Retire::Epoch => Act::Load {
+            block: HEADER,
+            word: EPOCH,
+        },
         Retire::SetEpoch { epoch } => Act::Store {
-            block: 0,
-            word: 2,
+            block: HEADER,
+            word: EPOCH,
             x: epoch + 1,
         },
         Retire::SetAt { i, epoch } => Act::Store {
             block: retired_at(own, i),
-            word: 31,
+            word: RETIRED_AT,
             x: epoch,
         },
         Retire::SetNext { i, .. } => Act::Store {
             block: retired_at(own, i),
-            word: 32,
+            word: NEXT_RETIRED,
             x: follower(job, i, own) as u64,
         },
-        Retire::Tail => Act::Load { block: 0, word: 4 },
+        Retire::Tail => Act::Load {
+            block: HEADER,
+            word: LIMBO_TAIL,
+        },
         Retire::SetHead => Act::Store {
-            block: 0,
-            word: 3,
+            block: HEADER,
+            word: LIMBO_HEAD,
             x: retired_at(own, 0) as u64,
         },
         Retire::Link { tail } => Act::Store {
             block: tail,
-            word: 32,
+            word: NEXT_RETIRED,
             x: retired_at(own, 0) as u64,
         },
         Retire::SetTail => Act::Store {
-            block: 0,
-            word: 4,
+            block: HEADER,
+            word: LIMBO_TAIL,
             x: retired_at(own, job.retired - 1) as u64,
         },
         Retire::Fence => Act::Fence,
@@ -227,23 +250,26 @@ fn reclaim_asks(s: Reclaim) -> Act
     ensures { result ≡ reclaim_act s }
 {
     match s {
-        Reclaim::Head { .. } => Act::Load { block: 0, word: 3 },
+        Reclaim::Head { .. } => Act::Load {
+            block: HEADER,
+            word: LIMBO_HEAD,
+        },
         Reclaim::RetiredAt { node, .. } => Act::Load {
             block: node,
-            word: 31,
+            word: RETIRED_AT,
         },
         Reclaim::Next { node, .. } => Act::Load {
             block: node,
-            word: 32,
+            word: NEXT_RETIRED,
         },
         Reclaim::SetHead { next, .. } => Act::Store {
-            block: 0,
-            word: 3,
+            block: HEADER,
+            word: LIMBO_HEAD,
             x: next as u64,
         },
         Reclaim::SetTail { .. } => Act::Store {
-            block: 0,
-            word: 4,
+            block: HEADER,
+            word: LIMBO_TAIL,
             x: 0,
         },
         Reclaim::Release { node, .. } => Act::Release { block: node },
@@ -269,8 +295,8 @@ fn update_asks(p: u32, job: Job, phase: Phase, own: &OwnWords) -> Act
     match phase {
         Phase::Refuse => Act::Pause,
         Phase::Lock => Act::Swap {
-            block: 0,
-            word: 0,
+            block: HEADER,
+            word: WRITER,
             old: 0,
             new: u64::from(p) + 1,
         },

@@ -78,7 +78,7 @@ fn in_state(state: u32) -> Fields
     }
 }
 
-// All of it.
+// What is under way: the number of its phase, the job, and the parts of its state.
 #[derive(Clone, Copy)]
 pub struct Registers {
     pub phase: u32,

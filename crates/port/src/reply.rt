@@ -6,11 +6,8 @@ ghost use Rattle.port.specs.Replies.{ReplyFits, free_for, mem_of, waiting};
 mod one;
 
 pub use one::OneReply;
-use routes::Memory;
 use routes::act::Act;
-
-// As many as a memory can have.
-pub const BLOCKS: u32 = 1_048_576;
+use routes::{MOST_BLOCKS, Memory};
 
 // Can the reply to this be so?
 pub fn reply_fits(asked: Act, reply: u64) -> bool
@@ -18,7 +15,7 @@ pub fn reply_fits(asked: Act, reply: u64) -> bool
     ensures exact { ReplyFits asked reply → T result }
 {
     match asked {
-        Act::Obtain => reply <= u64::from(BLOCKS),
+        Act::Obtain => reply <= u64::from(MOST_BLOCKS),
         _ => true,
     }
 }
@@ -61,7 +58,7 @@ impl Memory for OneReply {
     }
 
     fn blocks(&self) -> u32 {
-        BLOCKS
+        MOST_BLOCKS
     }
 
     fn load(&mut self, _p: u32, block: u32, word: u32) -> u64 {

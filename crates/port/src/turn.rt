@@ -5,16 +5,11 @@ ghost use Rattle.port.specs.Turns.{AsksNext, AfterReply};
 
 use crate::asking::asks;
 use crate::ok::work_ok;
-use crate::reply::{BLOCKS, OneReply, reply_fits};
+use crate::reply::{OneReply, reply_fits};
 use own::OwnWords;
 use routes::act::Act;
 use routes::work::Work;
-use routes::{Answer, Cpu};
-
-// The limits of a memory stand here again, since whoever uses this crate has a memory of another kind than crates/memory.
-const MOST_CPUS: u32 = 16;
-
-const BLOCK_WORDS: u32 = 48;
+use routes::{Answer, BLOCK_WORDS, Cpu, MOST_BLOCKS, MOST_CPUS};
 
 // Why a turn cannot be taken.
 #[derive(Clone, Copy)]
@@ -37,8 +32,8 @@ fn in_memory(a: Act) -> bool
     match a {
         Act::Load { block, word }
         | Act::Store { block, word, .. }
-        | Act::Swap { block, word, .. } => block < BLOCKS && word < BLOCK_WORDS,
-        Act::Release { block } => 0 < block && block < BLOCKS,
+        | Act::Swap { block, word, .. } => block < MOST_BLOCKS && word < BLOCK_WORDS,
+        Act::Release { block } => 0 < block && block < MOST_BLOCKS,
         Act::Fence | Act::Obtain | Act::Pause => true,
     }
 }

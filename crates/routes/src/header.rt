@@ -9,7 +9,7 @@ use super::access::swap;
 pub const HEADER: u32 = 0;
 
 // 0, or the number of the processor that has the lock, and 1.
-const WRITER: u32 = 0;
+pub const WRITER: u32 = 0;
 
 pub const ROOT: u32 = 1;
 
@@ -22,8 +22,8 @@ pub const LIMBO_TAIL: u32 = 4;
 // The first of sixteen words, one for each processor: 0, or the epoch that it announced, and 1.
 pub const ACTIVE: u32 = 16;
 
-// The writer's lock, if nobody has it: what it was.
-pub fn try_lock<M: Memory>(w: &mut M, p: u32) -> u64
+// The writer's lock, if nobody has it: what it was. Taken and given up by two functions, whose callers know the lock in two ways.
+pub(crate) fn try_lock<M: Memory>(w: &mut M, p: u32) -> u64
     requires { MayDo (M.mem w.old) p (Swap 0 0 0 (p + 1)) }
     ensures did { Did p (Swap 0 0 0 (p + 1)) (M.mem w.old) result (M.mem w.new) }
     ensures unseen { M.seen w.new ≡ M.seen w.old }
@@ -31,7 +31,7 @@ pub fn try_lock<M: Memory>(w: &mut M, p: u32) -> u64
     swap(w, p, HEADER, WRITER, 0, u64::from(p) + 1)
 }
 
-pub fn unlock<M: Memory>(w: &mut M, p: u32) -> u64
+pub(crate) fn unlock<M: Memory>(w: &mut M, p: u32) -> u64
     requires { MayDo (M.mem w.old) p (Swap 0 0 (p + 1) 0) }
     ensures did { Did p (Swap 0 0 (p + 1) 0) (M.mem w.old) result (M.mem w.new) }
     ensures unseen { M.seen w.new ≡ M.seen w.old }

@@ -11,16 +11,18 @@ ghost use Rattle.routes.specs.Machine.Cpus.{Ready, Stepped, Begun};
 
 mod access;
 pub mod act;
-mod header;
+pub mod header;
 pub mod laws;
+mod limits;
 pub mod lookup;
-mod node;
+pub mod node;
 mod pool;
 mod prefix;
 mod refusal;
 pub mod update;
 pub mod work;
 
+pub use limits::{BLOCK_WORDS, MOST_BLOCKS, MOST_CPUS};
 use lookup::step_lookup;
 use own::OwnWords;
 pub use prefix::Prefix;
@@ -193,6 +195,7 @@ impl Cpu {
 }
 
 // THE MAIN PROMISE. Whichever processors take turns, whatever they are asked, and whenever stores arrive.
+// Its text is given, and so are the parameters of `begin` and `step`: loops and slices stay as they stand there.
 pub fn turns<W: Memory + World>(
     w: &mut W,
     cpus: &mut [Cpu],

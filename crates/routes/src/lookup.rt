@@ -13,7 +13,7 @@ use std::ops::ControlFlow;
 use std::ops::ControlFlow::{Break, Continue};
 use words::{Slot, block_of, nib};
 
-// Where a lookup is: its address, the epoch that it loaded, and on its way down the level, the node and the longest route so far.
+// Where a lookup is: its address, the epoch that it loaded, and on its way down the level, the node and the longest route so far, as it would be told.
 #[derive(Clone, Copy)]
 pub enum Lookup {
     Epoch {

@@ -50,7 +50,7 @@ fn after_lock(was: u64) -> Phase
     }
 }
 
-// The job and the state of its phase are handed over by value and come back changed; the memory and the own words are lent to each step.
+// Five parameters, for of one struct behind `&mut` each contract would have to say what stays; and a match, for where an update is stands in its registers.
 pub fn step_update<M: Memory>(
     job: job::Job,
     phase: Phase,

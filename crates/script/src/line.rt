@@ -20,7 +20,7 @@ fn chomp(text: &[u8]) -> &[u8]
     text.strip_suffix(b"\r").unwrap_or(text)
 }
 
-// The command of a line, which comes without its newline, where there are so many processors; none of a blank line or a comment.
+// The command of a line, which comes without its newline, where there are so many processors; none if it is blank or a comment.
 pub fn read_line<const CPUS: u8>(text: &[u8]) -> Result<Option<Command<CPUS>>, Expected>
     ensures { result ≡ line_of CPUS text.now }
 {

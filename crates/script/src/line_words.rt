@@ -15,7 +15,7 @@ pub struct Words<'a> {
     rest: &'a [u8],
 }
 
-// How many blanks a text begins with.
+// How many blanks a text begins with. With the test as a closure that is passed, search finds no proof; so letters are counted by a function of their own.
 fn blanks(text: &[u8]) -> usize
     ensures value { result ≡ prefix_len blank text.now }
     ensures bound { result ≤ length text.now }

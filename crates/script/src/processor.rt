@@ -10,10 +10,11 @@ pub struct Processor<const CPUS: u8> {
 }
 
 impl<const CPUS: u8> Processor<CPUS> {
+    // here, since the definitions name the struct
     ghost use Rattle.std.specs.Prelude.{◌≡◌};
     ghost use Rattle.script.specs.Reading.{numbered};
 
-    // The processor of that number, if there are more.
+    // The processor of that number, if the number is below their count.
     pub fn new(number: u64) -> Option<Processor<CPUS>>
         ensures { result ≡ numbered CPUS number }
     {
@@ -26,7 +27,7 @@ impl<const CPUS: u8> Processor<CPUS> {
     }
 }
 
-// As its number.
+// A processor is shown as its number.
 impl<const CPUS: u8> fmt::Display for Processor<CPUS> {
     ghost output = { λ p. Some (decimal p.number) };
 

@@ -5,14 +5,14 @@ ghost use Rattle.words.specs.Slots.{InRange, UnpacksWhatItPacks, route_word, fit
 use super::address::candidate;
 
 // The longest route of a node that fits a slot: its length beyond the bits above the node, 0 to 3, and what it tells.
-// Its range is a clause, `InRange`, and not a fact of the type: the definitions make fits of words of any numbers.
+// Its range is a clause, `InRange`, and not a fact of the type: the definitions make fits from words that hold anything.
 #[derive(Clone, Copy)]
 pub struct Fit {
     pub extra: u8,
     pub tells: u32,
 }
 
-// A slot: the block of the node below or 0, and the longest route of the slot's own node that fits.
+// A slot: the block of the node below, or 0 for none as in its word, and the longest route of the slot's own node that fits.
 #[derive(Clone, Copy)]
 pub struct Slot {
     pub child: u32,
@@ -110,7 +110,7 @@ fn fit_or(extra: u8, word: u64, best: Option<Fit>) -> Option<Fit>
     }
 }
 
-// The longest route that fits slot n, of a node with these 15 route words.
+// The longest route that fits slot n, of a node with these 15 route words: a slice, since they are a part of an image.
 pub fn best_fit(routes: &[u64], n: u32) -> Option<Fit>
     requires { (length routes.now ≡ 15) × (n < 16) }
     ensures value { result ≡ best_fit (λ x. slice_index routes.now x) n }

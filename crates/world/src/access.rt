@@ -10,7 +10,7 @@ use crate::world::ScheduledWorld;
 use routes::Memory;
 use routes::act::Act;
 
-// A block that was got and 1, or 0.
+// A block that was got and 1, or 0: one number, as a caller in C replies with it.
 fn reply_of(got: Option<u32>) -> u64
     ensures { result ≡ reply_of got }
 {

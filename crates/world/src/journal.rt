@@ -8,14 +8,14 @@ ghost use Rattle.world.specs.Journals.{kinds_of, notes_of, room_of, event_room_o
 use crate::notes::{first_word, second_word, told_word};
 use routes::{Answer, Ask, Piece};
 
-// Kinds of events: a turn of a processor is its number, and others are that and one of these.
-// Numbers, and slices with their counts beside them: a caller in Rust or C lends them and reads them.
+// Kinds of events: a turn of a processor is its number, below 16, and others are that and one of these. A caller in Rust or C reads them.
 pub const TOLD: u8 = 16;
 
 pub const ASKED_FIND: u8 = 32;
 
 pub const ASKED_CHANGE: u8 = 48;
 
+// Slices with their counts beside them: a caller in Rust or C lends them.
 #[derive(Drop)]
 pub struct Journal<'a> {
     kinds: &'a mut [u8],

@@ -1,4 +1,4 @@
-// What an event says, in words.
+// What an event says, in words; no From, since pieces and answers are of another crate. A caller in Rust or C reads the kinds.
 ghost use Rattle.std.specs.Prelude.{◌≡◌};
 ghost use Rattle.world.specs.Notes.{first_word, second_word, piece_of, told_word, told_of};
 

@@ -62,7 +62,7 @@ impl<S: Schedule> ScheduledWorld<'_, '_, '_, '_, '_, S> {
         ensures next { Next result.1 result.0 pieces.new (mem_of self.old.memory.now) (seen_of self.old.journal.now) (seen_of self.new.journal.now) }
         ensures arrives { Arrives (allowed result.0 (mem_of self.old.memory.now)) (mem_of self.new.memory.now) }
     {
-        // a count, since a schedule that never says what may be would go on for ever
+        // a count, since nothing is known of a schedule: it may ask for ever for what may not be
         for _ in 0..u64::MAX {
             match self.schedule.next(&self.busy, pieces) {
                 Move::Begin { cpu, ask } => {
@@ -89,6 +89,7 @@ impl<S: Schedule> World for ScheduledWorld<'_, '_, '_, '_, '_, S> {
     fn next(&mut self, pieces: &mut [Piece]) -> (u32, Turn) {
         match pieces.as_mut_array() {
             Some(row) => self.next_turn(row),
+            // a row of another length is lent by no caller
             None => self.stop(),
         }
     }

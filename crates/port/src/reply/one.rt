@@ -1,10 +1,9 @@
-// The struct of a memory for one turn.
+// The memory for one turn, in a file of its own, since the definitions that reply.rt cites name it.
 ghost use Rattle.std.specs.Prelude.{◌<◌};
 ghost use Rattle.std.specs.Option.{ForSome};
 
 use routes::act::Act;
 
-// A memory for one turn: it is asked one thing, and its reply is given beforehand.
 // Each word holds the value, and each block is held but the free one; what it was asked is noted, once it was.
 #[derive(Clone, Copy)]
 pub struct OneReply {

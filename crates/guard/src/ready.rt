@@ -15,7 +15,7 @@ pub trait Guard: Memory {
         ensures { T result → MayDo (Self.Memory.mem self.now) p a };
 }
 
-// May a processor with these own words take its turn?
+// The same, of own words whose type says how many they are.
 fn may_take<G: Guard>(w: &G, p: u32, cpu: &Cpu, own: &OwnWords) -> bool
     ensures { T result → Ready (G.Memory.mem w.now) p cpu.now own.now }
 {
@@ -26,10 +26,7 @@ fn may_take<G: Guard>(w: &G, p: u32, cpu: &Cpu, own: &OwnWords) -> bool
 pub fn may_step<G: Guard>(w: &G, p: u32, cpu: &Cpu, own: &[u64]) -> bool
     ensures { T result → Ready (G.Memory.mem w.now) p cpu.now own.now }
 {
-    match own.as_array() {
-        Some(own) => may_take(w, p, cpu, own),
-        None => false,
-    }
+    own.as_array().is_some_and(|own| may_take(w, p, cpu, own))
 }
 
 // The turn may not be taken: something would be touched that may not be.

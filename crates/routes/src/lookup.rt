@@ -48,10 +48,7 @@ fn better(level: u8, slot: Slot, best: Answer) -> Answer
     requires { (level ≤ 8) × (InRange slot.fit) }
     ensures { result ≡ better_of level slot.fit best }
 {
-    match slot.fit {
-        Some(fit) => Answer::Found(4 * level + fit.extra, fit.tells),
-        None => best,
-    }
+    slot.fit.map_or(best, |fit| Answer::Found(4 * level + fit.extra, fit.tells))
 }
 
 // From the root on, if there is one: else nothing is found.

@@ -32,29 +32,21 @@ impl<S: Schedule> ScheduledWorld<'_, '_, '_, '_, '_, S> {
         ensures allowed { mem_of self.new.memory.now ≡ allowed result.0 (mem_of self.old.memory.now) }
     {
         if !self.journal.asked(p, ask, pieces) {
-            return self.stop();
+            return self.give(0, Turn::Over);
         }
         self.busy[p as usize] = true;
         self.memory.allow(p);
         (p, Turn::Begin(ask))
     }
 
-    fn go(&mut self, p: u32) -> (u32, Turn)
-        ensures next { result ≡ (p, Turn.Go) }
+    // A turn of a processor, or 0 where all is over, with one thing to ask.
+    fn give(&mut self, p: u32, turn: Turn) -> (u32, Turn)
+        ensures next { result ≡ (p, turn) }
         ensures unseen { seen_of self.new.journal.now ≡ seen_of self.old.journal.now }
         ensures allowed { mem_of self.new.memory.now ≡ allowed result.0 (mem_of self.old.memory.now) }
     {
         self.memory.allow(p);
-        (p, Turn::Go)
-    }
-
-    fn stop(&mut self) -> (u32, Turn)
-        ensures next { result ≡ (0, Turn.Over) }
-        ensures unseen { seen_of self.new.journal.now ≡ seen_of self.old.journal.now }
-        ensures allowed { mem_of self.new.memory.now ≡ allowed result.0 (mem_of self.old.memory.now) }
-    {
-        self.memory.allow(0);
-        (0, Turn::Over)
+        (p, turn)
     }
 
     // What the schedule says next, of what may be.
@@ -72,7 +64,7 @@ impl<S: Schedule> ScheduledWorld<'_, '_, '_, '_, '_, S> {
                 }
                 Move::Go { cpu } => {
                     if self.may_go(cpu) {
-                        return self.go(cpu);
+                        return self.give(cpu, Turn::Go);
                     }
                 }
                 Move::Arrive { cpu } => {
@@ -81,7 +73,7 @@ impl<S: Schedule> ScheduledWorld<'_, '_, '_, '_, '_, S> {
                 Move::Over => break,
             }
         }
-        self.stop()
+        self.give(0, Turn::Over)
     }
 }
 
@@ -90,7 +82,7 @@ impl<S: Schedule> World for ScheduledWorld<'_, '_, '_, '_, '_, S> {
         match pieces.as_mut_array() {
             Some(row) => self.next_turn(row),
             // a row of another length is lent by no caller
-            None => self.stop(),
+            None => self.give(0, Turn::Over),
         }
     }
 

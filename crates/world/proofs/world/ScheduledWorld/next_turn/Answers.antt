@@ -16,7 +16,7 @@ returns-then-may_begin g c = record { next = next_arrived c.begin.result.1 c.beg
 pub returns-then-may_go : goal.returns-then-may_go
 returns-then-may_go g c =
     let h = c.if-may_go.ensures tt in
-    record { next = next_arrived c.go.result.1 c.go.result.0 _ _ _ _ c.loop.invariant.0 c.loop.invariant.1 (next_go c.go.result _ _ _ _ _ c.go.ensures.next h.0 h.1 c.go.ensures.unseen); arrives = turn_given c.go.result.0 c.loop.invariant.0 c.go.ensures.allowed }
+    record { next = next_arrived c.give.result.1 c.give.result.0 _ _ _ _ c.loop.invariant.0 c.loop.invariant.1 (next_go c.give.result _ _ _ _ _ c.give.ensures.next h.0 h.1 c.give.ensures.unseen); arrives = turn_given c.give.result.0 c.loop.invariant.0 c.give.ensures.allowed }
 
 pub loop-preserved : goal.loop-preserved
 loop-preserved g c = elim c.match-next.branch [
@@ -29,4 +29,4 @@ pub returns : goal.returns
 returns g c =
     let left : Arrives (mem_of c.args.self.now.memory.now) (mem_of c.loop-test.self.memory.now) × (seen_of c.loop-test.self.journal.now ≡ seen_of c.args.self.now.journal.now) =
     elim c.loop-test.branch [ else-loop-test w ↦ rw w.self-is c.loop.invariant | then-loop-test+in-Over w ↦ rw w.self-is c.loop.invariant ] in
-    record { next = next_over c.stop.result _ _ _ _ c.stop.ensures.next (c.stop.ensures.unseen ∙ left.1); arrives = turn_given c.stop.result.0 left.0 c.stop.ensures.allowed }
+    record { next = next_over c.give-2.result _ _ _ _ c.give-2.ensures.next (c.give-2.ensures.unseen ∙ left.1); arrives = turn_given c.give-2.result.0 left.0 c.give-2.ensures.allowed }

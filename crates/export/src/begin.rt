@@ -10,6 +10,7 @@ use routes::lookup::Lookup;
 use routes::work::Work;
 use routes::{Ask, Cpu, Piece};
 use std::array;
+use words::low_half;
 
 // Eight pieces, each with four words.
 type PiecesWords = [u64; 32];
@@ -59,7 +60,7 @@ fn piece_fits(words: &PiecesWords, k: usize) -> bool
         && words[at + 3] < 0x1_0000_0000
 }
 
-// Are the numbers of all pieces such as they can be?
+// Are the numbers of all pieces such as they can be? All are looked at before one is taken, as a call that is refused touches nothing.
 fn pieces_fit(words: &PiecesWords) -> bool
     ensures { result ≡ pieces_fit_of words.now }
 {
@@ -74,8 +75,8 @@ fn piece_in(words: &PiecesWords, k: usize) -> Piece
     Piece {
         puts: words[at] == 1,
         len: (words[at + 1] % 256) as u8,
-        bits: (words[at + 2] % 0x1_0000_0000) as u32,
-        tells: (words[at + 3] % 0x1_0000_0000) as u32,
+        bits: low_half(words[at + 2]),
+        tells: low_half(words[at + 3]),
     }
 }
 

@@ -1,4 +1,4 @@
-// May the next turn be taken?
+// May the next turn be taken? Own words come as a slice, as `step` takes them.
 ghost use Rattle.std.specs.Prelude.{◌<◌, T};
 ghost use Rattle.routes.specs.Machine.Acts.{MayDo};
 ghost use Rattle.routes.specs.Machine.Cpus.{Ready};

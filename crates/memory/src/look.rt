@@ -1,4 +1,4 @@
-// Rows of late stores are looked through, store by store.
+// Rows of late stores are looked through, store by store. Places in a row are plain numbers, counted from its oldest store.
 ghost use Rattle.std.specs.Prelude.{◌≡◌, ℕ, ◌+◌, ◌<◌, T, MatchOption, slice_index_or};
 ghost use Rattle.routes.specs.Memory.{last_late, none_to};
 ghost use Rattle.memory.specs.Rings.{no_store, place_of};

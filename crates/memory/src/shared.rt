@@ -7,7 +7,7 @@ use crate::layout::Layout;
 use crate::row::{LateStore, Row};
 use crate::size::MOST_CPUS;
 
-// The words of the blocks, a mark for each block that is held, the stack of those that are free, and 16 rows of late stores.
+// The words of the blocks, a mark for each block that is held, the stack of those that are free, and 16 rows of late stores; side by side, since the facts below name each.
 #[derive(Drop)]
 pub struct SharedMemory<'a> {
     pub(crate) words: &'a mut [u64],

@@ -36,7 +36,7 @@ fn is_busy(busy: &[bool], cpu: u32) -> bool
     busy.get(cpu as usize).copied().unwrap_or(false)
 }
 
-// A piece in two words.
+// A piece in two words; no From, since both are of other crates.
 fn read_piece(first: u64, second: u64) -> Piece
     requires { first < 512 }
     ensures { result ≡ piece_of first second }

@@ -4,6 +4,7 @@ ghost use Rattle.plain.specs.declared.change_error.ChangeError.TheVariants.{Refu
 
 use routes::Refusal;
 
+// No Option of a refusal: that there is no room is an error too.
 #[derive(Clone, Copy)]
 pub enum ChangeError {
     // it is turned away

@@ -6,6 +6,7 @@ use arrayvec::ArrayVec;
 mod edit;
 mod pieces;
 
+// That it has room is a clause, the one that push of an ArrayVec asks for.
 #[derive(Drop)]
 pub struct Draft {
     pub entries: ArrayVec<Entry, SLOTS>,

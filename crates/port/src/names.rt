@@ -1,4 +1,4 @@
-// Short names of what a processor has under way, for people: functions, since no other crate can give Display to the types of `routes`.
+// Short names of what a processor has under way, for people: functions that hand out a text, which a Display could only write.
 ghost use Rattle.std.specs.Prelude.{◌≡◌};
 ghost use Rattle.port.specs.Names.{lookup_name, check_name, obtain_name, recycle_name, scan_name, build_name, publish_name, retire_name, reclaim_name, finish_name, phase_name, work_name};
 

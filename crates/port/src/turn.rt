@@ -1,4 +1,4 @@
-// The turns of a processor, with the memory left to whoever asks: what it asks next, and what it has when the reply is there.
+// The turns of a processor, with the memory left to whoever asks: what it asks next, and what it has when the reply is there. Own words come as a slice, as C lends them.
 ghost use Rattle.std.specs.Prelude.{◌≡◌, ◌<◌, T};
 ghost use Rattle.port.specs.Replies.{InMemory};
 ghost use Rattle.port.specs.Turns.{AsksNext, AfterReply};

@@ -3,7 +3,7 @@ ghost use Rattle.std.specs.Prelude.{◌≡◌};
 ghost use Rattle.std.specs.Char.{digit_value};
 ghost use Rattle.script.specs.Bytes.{blank, letter, all_digits};
 
-// The value of a digit or a letter, and 36 for any other byte.
+// The value of a digit or a letter, and 36 for any other byte, as std's definition has it.
 pub fn digit_value(b: u8) -> u32
     ensures { result ≡ digit_value b }
 {

@@ -13,6 +13,7 @@ pub enum Keyword {
     Arrive,
 }
 
+// No TryFrom: a word that is none of these is no error.
 pub fn keyword_of(word: &[u8]) -> Option<Keyword>
     ensures { result ≡ keyword_of word.now }
 {

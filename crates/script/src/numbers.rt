@@ -20,7 +20,7 @@ fn with_digit(n: u64, radix: u64, digit: u64) -> Option<u64>
 }
 
 // The number that digits write, if it has at most 64 bits.
-// Not by u64::from_str_radix, which takes a str, and a plus in front.
+// Not by u64::from_str_radix, which takes a str, and a plus in front; nor by try_fold, no plainer than a `?` in a loop.
 fn value(digits: &[u8], radix: u64) -> Option<u64>
     requires { 0 < radix }
     ensures { result ≡ small (digits_value radix digits.now) }

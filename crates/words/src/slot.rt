@@ -60,7 +60,7 @@ fn fit_of(x: u64) -> Option<Fit>
     }
 }
 
-// No `From` both ways: a slot is packed only where its child and its fit are in their ranges.
+// No `From` both ways: a slot is packed only where its child and its fit are in their ranges. That a child is a block, below 2^20, is a clause for the reason of `InRange`.
 impl Slot {
     // What a slot word holds.
     pub fn unpack(x: u64) -> Slot

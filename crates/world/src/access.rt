@@ -32,7 +32,7 @@ impl<S: Schedule> ScheduledWorld<'_, '_, '_, '_, '_, S> {
         true
     }
 
-    // The stores of a processor arrive, one by one.
+    // The stores of a processor arrive, one by one, so that the schedule is shown each: memory's own loop shows none.
     fn arrive_each(&mut self, p: u32)
         ensures still { fenced p (mem_of self.new.memory.now) ≡ fenced p (mem_of self.old.memory.now) }
         ensures unseen { seen_of self.new.journal.now ≡ seen_of self.old.journal.now }

@@ -15,7 +15,7 @@ pub const ASKED_FIND: u8 = 32;
 
 pub const ASKED_CHANGE: u8 = 48;
 
-// Slices with their counts beside them: a caller in Rust or C lends them.
+// Slices with their counts beside them: a caller in Rust or C lends them. Whether there was room is told by a bool, as a world tells it.
 #[derive(Drop)]
 pub struct Journal<'a> {
     kinds: &'a mut [u8],

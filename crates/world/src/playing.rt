@@ -22,7 +22,7 @@ fn run<S: Schedule>(
     turns(world, cpus, own, pieces, u64::MAX);
 }
 
-// Plays a schedule.
+// Plays a schedule, with the own words of all processors in one row, as `turns` takes them.
 pub fn play<S: Schedule>(
     memory: &mut SharedMemory<'_>,
     journal: &mut Journal<'_>,

@@ -11,7 +11,7 @@ use crate::world::ScheduledWorld;
 use routes::{Answer, Ask, Memory, Piece, Turn, World};
 
 impl<S: Schedule> ScheduledWorld<'_, '_, '_, '_, '_, S> {
-    // Is there such a processor, with nothing under way?
+    // Is there such a processor, with nothing under way? One function for each question, as each lets another fact be concluded.
     fn may_begin(&self, p: u32) -> bool
         ensures { T result → (p < (mem_of self.now.memory.now).cpus) × T (not (under p (seen_of self.now.journal.now))) }
     {

@@ -14,7 +14,7 @@ use own::{OwnWords, edit_piece, fresh_at, image_at, image_word, note_path, note_
 use std::ops::ControlFlow::Continue;
 use words::{block_of, nib};
 
-// Its registers are plain numbers, whose ranges are in BuildOk: with a type for a range, the machine's definition would have to prove it in every state.
+// Its registers are plain numbers, handed on one by one, whose ranges are in BuildOk: with a type for a range, the machine's definition would have to prove it in every state.
 #[derive(Clone, Copy)]
 pub enum Build {
     Root,

@@ -1,4 +1,4 @@
-// What an update has in hand all the way.
+// What an update has in hand all the way: plain numbers, as in the registers that C programs keep.
 #[derive(Clone, Copy, Default)]
 pub struct Job {
     // how many pieces it has

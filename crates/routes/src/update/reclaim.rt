@@ -18,6 +18,7 @@ use words::block_of;
 pub const MOST_RELEASED: u32 = 2048;
 
 // grace: what the scan has shown. left: how many may still go.
+// Each state names its own registers, as they stand in words that C programs keep, and hands them on one by one.
 #[derive(Clone, Copy)]
 pub enum Reclaim {
     Head {

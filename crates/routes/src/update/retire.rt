@@ -62,7 +62,7 @@ fn after_tail(tail: u32) -> Phase
     }
 }
 
-// The replaced node after node i, or 0.
+// The replaced node after node i, or 0, as the word that links them holds it.
 pub fn follower(job: Job, i: u32, own: &OwnWords) -> u32
     requires { i < 72 }
     ensures { result ≡ follower_in job i own.now }

@@ -7,7 +7,7 @@ use super::draws::Draws;
 use super::player::{CPUS, Player};
 use super::stop::Stop;
 use super::told::Told;
-use script::{Command, Processor, Request, read_line};
+use script::{Command, Processor, Request, read_line_for};
 
 // How many turns a script may take.
 pub const TURN_LIMIT: u32 = 4_000_000;
@@ -53,7 +53,7 @@ impl Game {
         ensures line { self.new.line ≡ next_line self.old }
     {
         self.next_line();
-        match read_line(text)? {
+        match read_line_for(text)? {
             Some(command) => self.play(rt, command),
             None => Ok(()),
         }

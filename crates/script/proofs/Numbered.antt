@@ -1,6 +1,6 @@
 -- The processor that a number is.
 use Rattle.std.proofs.Common.{◌≡◌, ℕ, ◌^◌, ◌<◌, ◌≤◌, Bool, true, false, ltb, List, Some, None, Ok, Err, refl, sym, ◌∙◌, subst, inl, inr, arith}
-use Rattle.std.proofs.lemmas.Bool.{cases_Bool, cases_lt, ltb-true, lt-ltb, false≢true}
+use Rattle.std.proofs.lemmas.Bool.{cases_Bool, cases_lt, ltb-true, lt-ltb, le-ltb, false≢true}
 use Rattle.std.proofs.lemmas.Bool.Decides.{nat_tests}
 use Rattle.std.proofs.Props.{props}
 use Rattle.std.specs.Option.{ok_or}
@@ -33,21 +33,31 @@ module _ (cpus : ℕ) where
   pub numbered_none : (n : ℕ) → cpus ≤ n → numbered cpus n ≡ None
   numbered_none n h = nobody_by n (ltb n cpus) refl h
 
-  -- A number that is read is a processor's, if it is one's.
-  pub processor_read : (w : List ℕ) (n : ℕ) → Ok n ≡ decimal_of w → processor_of cpus w ≡ ok_or (numbered cpus n) (expected.Processor cpus)
+-- there are so many, and the type says that there are at most so many
+module _ (most cpus : ℕ) where
+  -- A number that is read is a processor's, if there are more and it is one's.
+  pub processor_read : (w : List ℕ) (n : ℕ) → Ok n ≡ decimal_of w → n < cpus → processor_of most cpus w ≡ ok_or (numbered most n) (expected.Processor cpus)
   unfolding processor_of
-  processor_read w n e = elim (cases_Bool (all_digits 10 w)) [
-    | inl d ↦ (let is : n ≡ digits_value 10 w = grind (arith, nat_tests) in rw (d, ← is) refl)
+  processor_read w n e below = elim (cases_Bool (all_digits 10 w)) [
+    | inl d ↦ (let is : n ≡ digits_value 10 w = grind (arith, nat_tests) in rw (d, ← is, lt-ltb n cpus below) refl)
     | inr d ↦ absurd (let z : ◌≡◌ {A = ℕ} 0 1 = grind (arith, nat_tests) in omega arith)
   ]
 
+  -- A number that is none of theirs is no processor.
+  pub processor_over : (w : List ℕ) (n : ℕ) → Ok n ≡ decimal_of w → cpus ≤ n → processor_of most cpus w ≡ Err (expected.Processor cpus)
+  unfolding processor_of
+  processor_over w n e over = elim (cases_Bool (all_digits 10 w)) [
+    | inl d ↦ (let is : n ≡ digits_value 10 w = grind (arith, nat_tests) in rw (d, ← is, le-ltb n cpus over) refl)
+    | inr d ↦ rw d refl
+  ]
+
   -- Where none is read there is no processor.
-  pub processor_unread : (w : List ℕ) (m : Misread) → cpus < 2 ^ 64 → Err m ≡ decimal_of w → processor_of cpus w ≡ Err (expected.Processor cpus)
+  pub processor_unread : (w : List ℕ) (m : Misread) → cpus < 2 ^ 64 → Err m ≡ decimal_of w → processor_of most cpus w ≡ Err (expected.Processor cpus)
   unfolding processor_of
   processor_unread w m few e = elim (cases_Bool (all_digits 10 w)) [
     | inl d ↦ elim (cases_lt (digits_value 10 w) (2 ^ 64)) [
       | inl l ↦ absurd (let z : ◌≡◌ {A = ℕ} 0 1 = grind (arith, nat_tests) in omega arith)
-      | inr l ↦ rw (d, numbered_none (digits_value 10 w) (omega arith)) refl
+      | inr l ↦ rw (d, le-ltb (digits_value 10 w) cpus (omega arith)) refl
     ]
     | inr d ↦ rw d refl
   ]

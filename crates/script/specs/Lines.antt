@@ -28,34 +28,34 @@ pub record FirstAt (x : ℕ) (t : List ℕ) (n : ℕ) : Type 0 where
   pub before : (k : ℕ) → k < n → slice_index t k ≢ x
 
 -- a processor, and how many of something
-unfoldable pub counted_of : (cpus : ℕ) → List ℕ → Result (Processor cpus × ℕ) Expected
-counted_of cpus t = processor_of cpus (word t) >>= λ p. count_of (word (past t)) >>= λ n. end_of expected.End (past (past t)) >>= λ _. Ok (p, n)
+unfoldable pub counted_of : (most cpus : ℕ) → List ℕ → Result (Processor most × ℕ) Expected
+counted_of most cpus t = processor_of most cpus (word t) >>= λ p. count_of (word (past t)) >>= λ n. end_of expected.End (past (past t)) >>= λ _. Ok (p, n)
 
 -- up to so many turns of a processor
-abbrev pub go_of : (cpus : ℕ) → List ℕ → Result (Command cpus) Expected
-go_of cpus t = counted_of cpus t >>= λ c. Ok (command.Go c.0 c.1)
+abbrev pub go_of : (most cpus : ℕ) → List ℕ → Result (Command most) Expected
+go_of most cpus t = counted_of most cpus t >>= λ c. Ok (command.Go c.0 c.1)
 
 -- turns of a processor until it is told
-abbrev pub on_of : (cpus : ℕ) → List ℕ → Result (Command cpus) Expected
-on_of cpus t = processor_of cpus (word t) >>= λ p. end_of expected.End (past t) >>= λ _. Ok (command.On p)
+abbrev pub on_of : (most cpus : ℕ) → List ℕ → Result (Command most) Expected
+on_of most cpus t = processor_of most cpus (word t) >>= λ p. end_of expected.End (past t) >>= λ _. Ok (command.On p)
 
 -- turns that a number chooses
-abbrev pub any_of : (cpus : ℕ) → List ℕ → Result (Command cpus) Expected
-any_of cpus t = seed_of (word t) >>= λ s. count_of (word (past t)) >>= λ n. end_of expected.End (past (past t)) >>= λ _. Ok (command.Any s n)
+abbrev pub any_of : (most : ℕ) → List ℕ → Result (Command most) Expected
+any_of most t = seed_of (word t) >>= λ s. count_of (word (past t)) >>= λ n. end_of expected.End (past (past t)) >>= λ _. Ok (command.Any s n)
 
 -- stores of a processor arrive
-abbrev pub arrive_of : (cpus : ℕ) → List ℕ → Result (Command cpus) Expected
-arrive_of cpus t = counted_of cpus t >>= λ c. Ok (command.Arrive c.0 c.1)
+abbrev pub arrive_of : (most cpus : ℕ) → List ℕ → Result (Command most) Expected
+arrive_of most cpus t = counted_of most cpus t >>= λ c. Ok (command.Arrive c.0 c.1)
 
 -- a question begins
-abbrev pub find_of : {cpus : ℕ} → Processor cpus → List ℕ → Result (Command cpus) Expected
+abbrev pub find_of : {most : ℕ} → Processor most → List ℕ → Result (Command most) Expected
 find_of cpu t = ok_or (address_of (word t)) expected.Address >>= λ a. end_of expected.End (past t) >>= λ _. Ok (command.Begin cpu (record { ask = ask.Find a; pieces = replicate 8 blank_piece }))
 
 -- a change begins
-abbrev pub changes_of : {cpus : ℕ} → Processor cpus → List ℕ → Result (Command cpus) Expected
+abbrev pub changes_of : {most : ℕ} → Processor most → List ℕ → Result (Command most) Expected
 changes_of cpu t = change_of t >>= λ c. Ok (command.Begin cpu (record { ask = ask.Change c.count; pieces = c.pieces }))
 
-abbrev pub ask_by : {cpus : ℕ} → Option Keyword → Processor cpus → List ℕ → Result (Command cpus) Expected
+abbrev pub ask_by : {most : ℕ} → Option Keyword → Processor most → List ℕ → Result (Command most) Expected
 ask_by (Some Find) cpu t = find_of cpu (past t)
 ask_by (Some Put) cpu t = changes_of cpu t
 ask_by (Some Take) cpu t = changes_of cpu t
@@ -66,26 +66,30 @@ ask_by (Some Arrive) cpu t = Err expected.Ask
 ask_by None cpu t = Err expected.Ask
 
 -- a question or a change begins, after its processor's number
-abbrev pub ask_of : {cpus : ℕ} → Processor cpus → List ℕ → Result (Command cpus) Expected
+abbrev pub ask_of : {most : ℕ} → Processor most → List ℕ → Result (Command most) Expected
 ask_of cpu t = ask_by (keyword_of (word t)) cpu t
 
 -- w is a processor's number
-abbrev pub begin_of : (cpus : ℕ) → List ℕ → List ℕ → Result (Command cpus) Expected
-begin_of cpus w t = cond (all_digits 10 w) (processor_of cpus w >>= λ p. ask_of p t) (Err expected.Command)
+abbrev pub begin_of : (most cpus : ℕ) → List ℕ → List ℕ → Result (Command most) Expected
+begin_of most cpus w t = cond (all_digits 10 w) (processor_of most cpus w >>= λ p. ask_of p t) (Err expected.Command)
 
-abbrev pub command_by : Option Keyword → (cpus : ℕ) → List ℕ → List ℕ → Result (Command cpus) Expected
-command_by (Some Go) cpus w t = go_of cpus t
-command_by (Some On) cpus w t = on_of cpus t
-command_by (Some Any) cpus w t = any_of cpus t
-command_by (Some Arrive) cpus w t = arrive_of cpus t
-command_by (Some Find) cpus w t = Err expected.Command
-command_by (Some Put) cpus w t = Err expected.Command
-command_by (Some Take) cpus w t = Err expected.Command
-command_by None cpus w t = begin_of cpus w t
+abbrev pub command_by : Option Keyword → (most cpus : ℕ) → List ℕ → List ℕ → Result (Command most) Expected
+command_by (Some Go) most cpus w t = go_of most cpus t
+command_by (Some On) most cpus w t = on_of most cpus t
+command_by (Some Any) most cpus w t = any_of most t
+command_by (Some Arrive) most cpus w t = arrive_of most cpus t
+command_by (Some Find) most cpus w t = Err expected.Command
+command_by (Some Put) most cpus w t = Err expected.Command
+command_by (Some Take) most cpus w t = Err expected.Command
+command_by None most cpus w t = begin_of most cpus w t
 
 -- w is the first word, and t what follows it
-abbrev pub command_of : (cpus : ℕ) → List ℕ → List ℕ → Result (Command cpus) Expected
-command_of cpus w t = command_by (keyword_of w) cpus w t
+abbrev pub command_of : (most cpus : ℕ) → List ℕ → List ℕ → Result (Command most) Expected
+command_of most cpus w t = command_by (keyword_of w) most cpus w t
+
+-- the command of a line that has one
+abbrev pub words_of : (most cpus : ℕ) → List ℕ → List ℕ → Result (Option (Command most)) Expected
+words_of most cpus w t = command_of most cpus w t >>= λ c. Ok (Some c)
 
 -- a line that is passed over: no word, or a first one that begins with #
 abbrev pub passed : List ℕ → Bool
@@ -95,9 +99,9 @@ passed w = length w == 0 || slice_index w 0 == 35
 abbrev pub chomped : List ℕ → List ℕ
 chomped t = cond (slice_index t (length t - 1) == 13) (take (length t - 1) t) t
 
-abbrev pub line_from : (cpus : ℕ) → List ℕ → Result (Option (Command cpus)) Expected
-line_from cpus t = cond (passed (word t)) (Ok None) (command_of cpus (word t) (past t) >>= λ c. Ok (Some c))
+abbrev pub line_from : (most cpus : ℕ) → List ℕ → Result (Option (Command most)) Expected
+line_from most cpus t = cond (passed (word t)) (Ok None) (words_of most cpus (word t) (past t))
 
--- the command of a line, if it has one
-abbrev pub line_of : (cpus : ℕ) → List ℕ → Result (Option (Command cpus)) Expected
-line_of cpus t = line_from cpus (chomped t)
+-- The command of a line, if it has one: its processor is one of cpus, and of a type that says that there are at most so many.
+abbrev pub line_of : (most cpus : ℕ) → List ℕ → Result (Option (Command most)) Expected
+line_of most cpus t = line_from most cpus (chomped t)

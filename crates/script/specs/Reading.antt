@@ -30,9 +30,9 @@ numbered_by cpus n false e = None
 abbrev pub numbered : (cpus : ℕ) → ℕ → Option (Processor cpus)
 numbered cpus n = numbered_by cpus n (nat_lt n cpus) refl
 
--- a processor, of so many
-unfoldable pub processor_of : (cpus : ℕ) → List ℕ → Result (Processor cpus) Expected
-processor_of cpus w = cond (all_digits 10 w) (ok_or (numbered cpus (digits_value 10 w)) (expected.Processor cpus)) (Err (expected.Processor cpus))
+-- a processor of so many, of which there are cpus
+unfoldable pub processor_of : (most cpus : ℕ) → List ℕ → Result (Processor most) Expected
+processor_of most cpus w = cond (all_digits 10 w && nat_lt (digits_value 10 w) cpus) (ok_or (numbered most (digits_value 10 w)) (expected.Processor cpus)) (Err (expected.Processor cpus))
 
 -- what is told, or how many turns or stores
 abbrev pub count_of : List ℕ → Result ℕ Expected

@@ -78,6 +78,18 @@ Fits (On cpu) = Unit {0}
 Fits (Any seed turns) = (seed < 2 ^ 64) × (turns < 2 ^ 32)
 Fits (Arrive cpu stores) = stores < 2 ^ 32
 
+-- its processor, if it has one, is one of so many
+abbrev pub Among : {most : ℕ} → ℕ → Command most → Type 0
+Among cpus (Begin cpu r) = cpu.number < cpus
+Among cpus (Go cpu turns) = cpu.number < cpus
+Among cpus (On cpu) = cpu.number < cpus
+Among cpus (Any seed turns) = Unit {0}
+Among cpus (Arrive cpu stores) = cpu.number < cpus
+
 -- Reading what a command is shown as gives the command.
 abbrev pub ReadsBack : Type 0
-ReadsBack = (cpus : ℕ) → cpus < 256 → (c : Command cpus) → Fits c → line_of cpus (shown c) ≡ Ok (Some c)
+ReadsBack = (cpus : ℕ) → cpus < 256 → (c : Command cpus) → Fits c → line_of cpus cpus (shown c) ≡ Ok (Some c)
+
+-- The same where there are fewer processors than the type says.
+abbrev pub ReadsBackAmong : Type 0
+ReadsBackAmong = (most cpus : ℕ) → most < 256 → (c : Command most) → Among cpus c → Fits c → line_of most cpus (shown c) ≡ Ok (Some c)

@@ -43,32 +43,32 @@ pub enum Command<const CPUS: u8> {
 
 // A processor, and how many turns or stores of it.
 #[tactic(auto, unfolding(crate::specs::Lines::counted_of))]
-fn counted<const CPUS: u8>(mut words: Words) -> Result<(Processor<CPUS>, u32), Expected>
-    ensures { result ≡ counted_of CPUS words.entry.rest.now }
+fn counted<const MOST: u8>(mut words: Words, cpus: u8) -> Result<(Processor<MOST>, u32), Expected>
+    ensures { result ≡ counted_of MOST cpus words.entry.rest.now }
 {
-    let cpu = read_processor(words.next())?;
+    let cpu = read_processor(words.next(), cpus)?;
     let count = read_count(words.next())?;
     words.end(Expected::End)?;
     Ok((cpu, count))
 }
 
-fn go<const CPUS: u8>(words: Words) -> Result<Command<CPUS>, Expected>
-    ensures { result ≡ go_of CPUS words.entry.rest.now }
+fn go<const MOST: u8>(words: Words, cpus: u8) -> Result<Command<MOST>, Expected>
+    ensures { result ≡ go_of MOST cpus words.entry.rest.now }
 {
-    let (cpu, turns) = counted(words)?;
+    let (cpu, turns) = counted(words, cpus)?;
     Ok(Command::Go { cpu, turns })
 }
 
-fn on<const CPUS: u8>(mut words: Words) -> Result<Command<CPUS>, Expected>
-    ensures { result ≡ on_of CPUS words.entry.rest.now }
+fn on<const MOST: u8>(mut words: Words, cpus: u8) -> Result<Command<MOST>, Expected>
+    ensures { result ≡ on_of MOST cpus words.entry.rest.now }
 {
-    let cpu = read_processor(words.next())?;
+    let cpu = read_processor(words.next(), cpus)?;
     words.end(Expected::End)?;
     Ok(Command::On { cpu })
 }
 
-fn any<const CPUS: u8>(mut words: Words) -> Result<Command<CPUS>, Expected>
-    ensures { result ≡ any_of CPUS words.entry.rest.now }
+fn any<const MOST: u8>(mut words: Words) -> Result<Command<MOST>, Expected>
+    ensures { result ≡ any_of MOST words.entry.rest.now }
 {
     let seed = read_seed(words.next())?;
     let turns = read_count(words.next())?;
@@ -76,14 +76,14 @@ fn any<const CPUS: u8>(mut words: Words) -> Result<Command<CPUS>, Expected>
     Ok(Command::Any { seed, turns })
 }
 
-fn arrive<const CPUS: u8>(words: Words) -> Result<Command<CPUS>, Expected>
-    ensures { result ≡ arrive_of CPUS words.entry.rest.now }
+fn arrive<const MOST: u8>(words: Words, cpus: u8) -> Result<Command<MOST>, Expected>
+    ensures { result ≡ arrive_of MOST cpus words.entry.rest.now }
 {
-    let (cpu, stores) = counted(words)?;
+    let (cpu, stores) = counted(words, cpus)?;
     Ok(Command::Arrive { cpu, stores })
 }
 
-fn find<const CPUS: u8>(mut words: Words, cpu: Processor<CPUS>) -> Result<Command<CPUS>, Expected>
+fn find<const MOST: u8>(mut words: Words, cpu: Processor<MOST>) -> Result<Command<MOST>, Expected>
     ensures { result ≡ find_of cpu.entry words.entry.rest.now }
 {
     let sought = address(words.next()).ok_or(Expected::Address)?;
@@ -95,7 +95,7 @@ fn find<const CPUS: u8>(mut words: Words, cpu: Processor<CPUS>) -> Result<Comman
     Ok(Command::Begin { cpu, request })
 }
 
-fn change<const CPUS: u8>(text: &[u8], cpu: Processor<CPUS>) -> Result<Command<CPUS>, Expected>
+fn change<const MOST: u8>(text: &[u8], cpu: Processor<MOST>) -> Result<Command<MOST>, Expected>
     ensures { result ≡ changes_of cpu.entry text.now }
 {
     let change = read_change(text)?;
@@ -108,7 +108,7 @@ fn change<const CPUS: u8>(text: &[u8], cpu: Processor<CPUS>) -> Result<Command<C
 }
 
 // What begins on a processor.
-fn ask<const CPUS: u8>(words: Words, cpu: Processor<CPUS>) -> Result<Command<CPUS>, Expected>
+fn ask<const MOST: u8>(words: Words, cpu: Processor<MOST>) -> Result<Command<MOST>, Expected>
     ensures { result ≡ ask_of cpu.entry words.entry.rest.now }
 {
     let mut after = words;
@@ -120,26 +120,30 @@ fn ask<const CPUS: u8>(words: Words, cpu: Processor<CPUS>) -> Result<Command<CPU
 }
 
 // The first word is a processor's number.
-fn begin<const CPUS: u8>(first: &[u8], words: Words) -> Result<Command<CPUS>, Expected>
-    ensures { result ≡ begin_of CPUS first.now words.entry.rest.now }
+fn begin<const MOST: u8>(first: &[u8], words: Words, cpus: u8) -> Result<Command<MOST>, Expected>
+    ensures { result ≡ begin_of MOST cpus first.now words.entry.rest.now }
 {
     if !all_digits(first, 10) {
         return Err(Expected::Command);
     }
-    let cpu = read_processor(first)?;
+    let cpu = read_processor(first, cpus)?;
     ask(words, cpu)
 }
 
 // A command, of which the first word is read.
-pub fn read_command<const CPUS: u8>(first: &[u8], words: Words) -> Result<Command<CPUS>, Expected>
-    ensures { result ≡ command_of CPUS first.now words.entry.rest.now }
+pub fn read_command<const MOST: u8>(
+    first: &[u8],
+    words: Words,
+    cpus: u8,
+) -> Result<Command<MOST>, Expected>
+    ensures { result ≡ command_of MOST cpus first.now words.entry.rest.now }
 {
     match keyword_of(first) {
-        Some(Keyword::Go) => go(words),
-        Some(Keyword::On) => on(words),
+        Some(Keyword::Go) => go(words, cpus),
+        Some(Keyword::On) => on(words, cpus),
         Some(Keyword::Any) => any(words),
-        Some(Keyword::Arrive) => arrive(words),
+        Some(Keyword::Arrive) => arrive(words, cpus),
         Some(_) => Err(Expected::Command),
-        None => begin(first, words),
+        None => begin(first, words, cpus),
     }
 }

@@ -14,13 +14,17 @@ pub struct Prefix {
     pub len: u8,
 }
 
-pub fn read_processor<const CPUS: u8>(word: &[u8]) -> Result<Processor<CPUS>, Expected>
-    ensures { result ≡ processor_of CPUS word.now }
+// A processor's number, where there are so many.
+pub fn read_processor<const MOST: u8>(word: &[u8], cpus: u8) -> Result<Processor<MOST>, Expected>
+    ensures { result ≡ processor_of MOST cpus word.now }
 {
     let Ok(number) = decimal(word) else {
-        return Err(Expected::Processor(CPUS));
+        return Err(Expected::Processor(cpus));
     };
-    Processor::new(number).ok_or(Expected::Processor(CPUS))
+    if number < u64::from(cpus) {
+        return Processor::new(number).ok_or(Expected::Processor(cpus));
+    }
+    Err(Expected::Processor(cpus))
 }
 
 // What is told, or how many turns or stores.

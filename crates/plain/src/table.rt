@@ -1,13 +1,17 @@
 // The table.
+ghost use Rattle.std.specs.Prelude.{◌≡◌, ◌≤◌, length};
+
 use crate::entry::Entry;
 use crate::size::ROOM;
-use arrayvec::ArrayVec;
 
 mod lookup;
 mod update;
 
-// Its routes, the newest last. No ArrayVec is Copy, but clone() of a table cannot fail.
-#[derive(Clone, Drop)]
+// Its routes are the first so many entries, the newest last. An array with a count beside it: no ArrayVec is Copy, and a table is.
+#[derive(Clone, Copy)]
 pub struct PlainTable {
-    entries: ArrayVec<Entry, ROOM>,
+    entries: [Entry; ROOM],
+    many: usize,
+    ghost room: { many ≤ 2048 },
+    ghost slots: { length entries ≡ 2048 },
 }

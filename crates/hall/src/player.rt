@@ -68,7 +68,18 @@ impl Player {
     fn busy_count(&self) -> usize
         ensures { result ≡ busy_below self.now.jobs 4 }
     {
-        self.jobs.iter().filter(|job| job.is_some()).count()
+        self.busy_before(CPUS as usize)
+    }
+
+    // How many of the first so many have something under way.
+    fn busy_before(&self, many: usize) -> usize
+        ensures { result ≡ busy_below self.now.jobs many }
+    {
+        self.jobs
+            .iter()
+            .take(many)
+            .filter(|job| job.is_some())
+            .count()
     }
 
     // The processor that has something under way and before which n have.
@@ -76,12 +87,8 @@ impl Player {
         requires { n < busy_below self.now.jobs 4 }
         ensures { MatchOption result ⊥ (λ p. IsNth self.now.jobs n p.number) }
     {
-        let (number, _) = self
-            .jobs
-            .iter()
-            .enumerate()
-            .filter(|(_, job)| job.is_some())
-            .nth(n)?;
+        let (number, _) = self.jobs.iter().enumerate().find(|(number, job)| job.is_some()
+            && self.busy_before(*number) == n)?;
         let number = number as u8;
         Some(Processor { number })
     }

@@ -82,6 +82,10 @@ fn pieces_fit(words: &[u64], at: usize, count: usize) -> bool
     ensures sound { T result → PiecesFit count words.now at }
     ensures exact { PiecesFit count words.now at → T result }
 {
+    // most moves have none, and a list is read twice
+    if count == 0 {
+        return true;
+    }
     let Some(pieces) = words.get(at..at + 2 * count) else {
         return false;
     };

@@ -29,7 +29,11 @@ fn most_at(i: usize) -> u64
 fn narrow(words: &RegisterWords) -> bool
     ensures { result ≡ narrow_of words.now }
 {
-    words.iter().enumerate().all(|(i, x)| *x <= most_at(i))
+    // no `all`: a test and a jump for each word cost half as much again where it is the last that is too wide
+    words
+        .iter()
+        .enumerate()
+        .fold(true, |fit, (i, x)| fit & (*x <= most_at(i)))
 }
 
 // The low byte; `as` alone may cut nothing off, so the remainder is taken first.

@@ -7,7 +7,7 @@ use super::draws::Draws;
 use super::player::{CPUS, Player};
 use super::stop::Stop;
 use super::told::Told;
-use script::{Command, Processor, Request, read_line_for};
+use script::{Command, CommandLine, Processor, Request, command_line};
 
 // How many turns a script may take.
 pub const TURN_LIMIT: u32 = 4_000_000;
@@ -53,10 +53,18 @@ impl Game {
         ensures line { self.new.line ≡ next_line self.old }
     {
         self.next_line();
-        match read_line_for(text)? {
-            Some(command) => self.play(rt, command),
+        match command_line(text) {
+            Some(line) => self.play_command(rt, line),
             None => Ok(()),
         }
+    }
+
+    // Plays the command of a line. A function by itself: a line that has none is not to pay for the room of a command.
+    fn play_command<R: Print>(&mut self, rt: &R, line: CommandLine) -> Result<(), Stop>
+        ensures line { self.new.line ≡ self.old.line }
+    {
+        let command = line.read(CPUS)?;
+        self.play(rt, command)
     }
 
     fn play<R: Print>(&mut self, rt: &R, command: Command<CPUS>) -> Result<(), Stop>

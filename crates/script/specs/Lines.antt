@@ -87,10 +87,6 @@ command_by None most cpus w t = begin_of most cpus w t
 abbrev pub command_of : (most cpus : ℕ) → List ℕ → List ℕ → Result (Command most) Expected
 command_of most cpus w t = command_by (keyword_of w) most cpus w t
 
--- the command of a line that has one
-abbrev pub words_of : (most cpus : ℕ) → List ℕ → List ℕ → Result (Option (Command most)) Expected
-words_of most cpus w t = command_of most cpus w t >>= λ c. Ok (Some c)
-
 -- a line that is passed over: no word, or a first one that begins with #
 abbrev pub passed : List ℕ → Bool
 passed w = length w == 0 || slice_index w 0 == 35
@@ -100,7 +96,7 @@ abbrev pub chomped : List ℕ → List ℕ
 chomped t = cond (slice_index t (length t - 1) == 13) (take (length t - 1) t) t
 
 abbrev pub line_from : (most cpus : ℕ) → List ℕ → Result (Option (Command most)) Expected
-line_from most cpus t = cond (passed (word t)) (Ok None) (words_of most cpus (word t) (past t))
+line_from most cpus t = cond (passed (word t)) (Ok None) (command_of most cpus (word t) (past t) >>= λ c. Ok (Some c))
 
 -- The command of a line, if it has one: its processor is one of cpus, and of a type that says that there are at most so many.
 abbrev pub line_of : (most cpus : ℕ) → List ℕ → Result (Option (Command most)) Expected

@@ -30,7 +30,7 @@ numbered_by cpus n false e = None
 abbrev pub numbered : (cpus : ℕ) → ℕ → Option (Processor cpus)
 numbered cpus n = numbered_by cpus n (nat_lt n cpus) refl
 
--- a processor of so many, of which there are cpus
+-- a processor: there are cpus, and the type allows most
 unfoldable pub processor_of : (most cpus : ℕ) → List ℕ → Result (Processor most) Expected
 processor_of most cpus w = cond (all_digits 10 w && nat_lt (digits_value 10 w) cpus) (ok_or (numbered most (digits_value 10 w)) (expected.Processor cpus)) (Err (expected.Processor cpus))
 

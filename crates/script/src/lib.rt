@@ -16,7 +16,7 @@ mod shown;
 
 pub use command::Command;
 pub use expected::Expected;
-pub use line::{line_end, read_line, read_line_for};
+pub use line::{CommandLine, command_line, line_end, read_line, read_line_for};
 pub use processor::Processor;
 pub use request::Request;
 pub use shown::reads_back;
